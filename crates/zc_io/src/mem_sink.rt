@@ -24,7 +24,14 @@ impl Model for MemSink {
 
     ghost Value = { MemSinkState };
 
-    ghost view = { λ s. record { written = s.sink.written; capacity = s.sink.capacity; chunk = s.chunk; failing = s.failing.items; calls = s.calls; faults = s.faults } };
+    ghost view = { λ s. record {
+      written = s.sink.written;
+      capacity = s.sink.capacity;
+      chunk = s.chunk;
+      failing = s.failing.items;
+      calls = s.calls;
+      faults = s.faults;
+    } };
 
     ghost invariant = { λ s. 1 ≤ s.chunk };
 }
@@ -39,7 +46,14 @@ impl MemSink {
         capacity: usize,
     ) -> Result<MemSink, NoMemory>
         requires { 1 ≤ chunk }
-        ensures { IfOk result (λ sink. sink ≡ record { written = []; capacity = capacity; chunk = chunk; failing = failing.items; calls = 0; faults = 0 }) }
+        ensures { IfOk result (λ sink. sink ≡ record {
+          written = [];
+          capacity = capacity;
+          chunk = chunk;
+          failing = failing.items;
+          calls = 0;
+          faults = 0;
+        }) }
     {
         Ok(MemSink {
             sink: SureSink::new(alloc, capacity)?,
@@ -66,15 +80,16 @@ impl Sink for MemSink {
     fn write(&mut self, piece: &[u8]) -> Result<usize, Failed>
         ensures bound { WritesAtMost result piece.now }
         ensures moves { IfOk result (λ count. 0 < length piece.now → 0 < count) }
-        ensures bytes { WriteAppends (Some self.old.written) (Some self.new.written) result piece.now }
+        ensures bytes { WriteAppends (Some self.old.written) (Some self.new.written)
+            result piece.now }
         ensures cause { HasCause self.old.faults self.new.faults result }
 
         // The call with the next number fails exactly where it was told to, or where it is full.
         ensures calls { self.new.calls ≡ next_count self.old.calls }
         ensures fails { IsErr result ↔ (Contains self.old.failing self.new.calls ⊎
             ((length self.old.written ≡ self.old.capacity) × (0 < length piece.now))) }
-        ensures count { IfOk result (λ count. count ≡
-            min (length piece.now) (min self.old.chunk (self.old.capacity - length self.old.written))) }
+        ensures count { IfOk result (λ count. count ≡ min (length piece.now)
+            (min self.old.chunk (self.old.capacity - length self.old.written))) }
         ensures faults { self.new.faults ≡ faults_after result self.old.faults }
         ensures same { (self.new.capacity ≡ self.old.capacity) ×
             (self.new.chunk ≡ self.old.chunk) × (self.new.failing ≡ self.old.failing) }

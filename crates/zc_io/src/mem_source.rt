@@ -22,7 +22,13 @@ impl Model for MemSource {
 
     ghost Value = { MemSourceState };
 
-    ghost view = { λ s. record { left = s.source; chunk = s.chunk; failing = s.failing.items; calls = s.calls; faults = s.faults } };
+    ghost view = { λ s. record {
+      left = s.source;
+      chunk = s.chunk;
+      failing = s.failing.items;
+      calls = s.calls;
+      faults = s.faults;
+    } };
 
     ghost invariant = { λ s. 1 ≤ s.chunk };
 }
@@ -32,7 +38,13 @@ impl MemSource {
     /// numbers, from 1, are in `failing` fail.
     pub fn new(bytes: Vec<u8>, chunk: usize, failing: Vec<u64>) -> MemSource
         requires { 1 ≤ chunk }
-        ensures { result ≡ record { left = bytes.items; chunk = chunk; failing = failing.items; calls = 0; faults = 0 } }
+        ensures { result ≡ record {
+          left = bytes.items;
+          chunk = chunk;
+          failing = failing.items;
+          calls = 0;
+          faults = 0;
+        } }
     {
         MemSource {
             source: SureSource::new(bytes),
@@ -57,9 +69,11 @@ impl Source for MemSource {
         // The call with the next number fails exactly where it was told to.
         ensures calls { self.new.calls ≡ next_count self.old.calls }
         ensures fails { IsErr result ↔ Contains self.old.failing self.new.calls }
-        ensures count { IfOk result (λ count. count ≡ min (length buf.new) (min self.old.chunk (length self.old.left))) }
+        ensures count { IfOk result (λ count. count ≡ min (length buf.new)
+            (min self.old.chunk (length self.old.left))) }
         ensures faults { self.new.faults ≡ faults_after result self.old.faults }
-        ensures same { (self.new.chunk ≡ self.old.chunk) × (self.new.failing ≡ self.old.failing) }
+        ensures same { (self.new.chunk ≡ self.old.chunk) ×
+            (self.new.failing ≡ self.old.failing) }
     {
         self.calls = self.calls.saturating_add(1);
         if self.failing.contains(&self.calls) {

@@ -52,13 +52,15 @@ pub fn read_all<S: Source>(
     requires { limit < 2 ^ 64 - 1 }
 
     // All that the source had, to its end, where that is within the limit.
-    ensures all { IfOk result (λ bytes. IfSome (S.left source.old) (λ left. bytes.items ≡ left)) }
+    ensures all { IfOk result (λ bytes. IfSome (S.left source.old)
+        (λ left. bytes.items ≡ left)) }
     ensures end { OnOk result (IsAtEnd (S.left source.new)) }
     ensures within { IfOk result (λ bytes. length bytes.items ≤ limit) }
 
     // A fault comes only from the source, and what is too long is always refused as such.
     ensures later { S.faults source.old ≤ S.faults source.new }
-    ensures fault { result ≡ Err ReadFailure.Fault → Rose (S.faults source.old) (S.faults source.new) }
+    ensures fault { result ≡ Err ReadFailure.Fault →
+        Rose (S.faults source.old) (S.faults source.new) }
     ensures too_long { (taken : ℕ) → result ≡ Err (ReadFailure.TooLong taken) →
         (taken ≡ limit + 1) × TakesFirst taken (S.left source.old) (S.left source.new) }
     ensures long { IfSome (S.left source.old) (λ left. limit < length left →

@@ -44,7 +44,8 @@ impl<W: Write> Sink for StdSink<W> {
     fn write(&mut self, piece: &[u8]) -> Result<usize, Failed>
         ensures bound { WritesAtMost result piece.now }
         ensures moves { IfOk result (λ count. 0 < length piece.now → 0 < count) }
-        ensures bytes { WriteAppends (W.contents self.old.inner) (W.contents self.new.inner) result piece.now }
+        ensures bytes { WriteAppends (W.contents self.old.inner) (W.contents self.new.inner)
+            result piece.now }
         ensures cause { HasCause self.old.faults self.new.faults result }
 
         // Each error is counted, and nothing else.

@@ -21,15 +21,24 @@ impl Model for SureSink {
 
     ghost Value = { SureSinkState };
 
-    ghost view = { λ s. record { written = s.bytes.items; capacity = s.capacity; faults = s.faults } };
+    ghost view = { λ s. record {
+      written = s.bytes.items;
+      capacity = s.capacity;
+      faults = s.faults;
+    } };
 
-    ghost invariant = { λ s. (length s.bytes.items ≤ s.capacity) × (s.capacity ≤ vec_capacity s.bytes) };
+    ghost invariant = { λ s. (length s.bytes.items ≤ s.capacity) ×
+        (s.capacity ≤ vec_capacity s.bytes) };
 }
 
 impl SureSink {
     /// An empty sink that takes `capacity` bytes.
     pub fn new(alloc: Global, capacity: usize) -> Result<SureSink, NoMemory>
-        ensures { IfOk result (λ sink. sink ≡ record { written = []; capacity = capacity; faults = 0 }) }
+        ensures { IfOk result (λ sink. sink ≡ record {
+          written = [];
+          capacity = capacity;
+          faults = 0;
+        }) }
     {
         Ok(SureSink {
             bytes: Vec::with_capacity(alloc, capacity)?,
@@ -54,12 +63,15 @@ impl Sink for SureSink {
     fn write(&mut self, piece: &[u8]) -> Result<usize, Failed>
         ensures bound { WritesAtMost result piece.now }
         ensures moves { IfOk result (λ count. 0 < length piece.now → 0 < count) }
-        ensures bytes { WriteAppends (Some self.old.written) (Some self.new.written) result piece.now }
+        ensures bytes { WriteAppends (Some self.old.written) (Some self.new.written)
+            result piece.now }
         ensures cause { HasCause self.old.faults self.new.faults result }
 
         // It fails exactly where it is full, and takes all that it has room for.
-        ensures full { IsErr result ↔ ((length self.old.written ≡ self.old.capacity) × (0 < length piece.now)) }
-        ensures count { IfOk result (λ count. count ≡ min (length piece.now) (self.old.capacity - length self.old.written)) }
+        ensures full { IsErr result ↔
+            ((length self.old.written ≡ self.old.capacity) × (0 < length piece.now)) }
+        ensures count { IfOk result (λ count. count ≡
+            min (length piece.now) (self.old.capacity - length self.old.written)) }
         ensures faults { self.new.faults ≡ faults_after result self.old.faults }
         ensures same { self.new.capacity ≡ self.old.capacity }
     {
