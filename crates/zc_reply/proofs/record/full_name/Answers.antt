@@ -1,0 +1,5 @@
+use Rattle.zc_reply.proofs.Texts.{valid_short_utf8}
+use Rattle.zc_reply.proofs.record.full_name.Goals as goal
+
+pub text_of-requires : goal.text_of-requires
+text_of-requires c = valid_short_utf8 c.args.short.now c.requires

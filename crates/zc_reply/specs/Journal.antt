@@ -1,0 +1,46 @@
+-- The journal and the replies as JSON (RFC 8259). Their form is this project's own.
+use Rattle.std.specs.Prelude.{ℕ, List, [], ◌∷◌, map, take, codes}
+use Rattle.serde_json.specs.Data.{Data, boolean, number, string, array, object, unsigned, item, no_items, member, no_members}
+use Rattle.serde_json.specs.View.{items_of}
+use Rattle.txg_core.specs.declared.event.Event.{Event}
+use Rattle.txg_core.specs.declared.event.Event.TheVariants as event
+use Rattle.zp_calls.specs.declared.reply.Reply.{Reply}
+use Rattle.zp_calls.specs.declared.reply.Reply.TheVariants as reply
+
+abbrev pub whole : ℕ → Data
+whole n = number (unsigned n)
+
+-- the array of these values
+abbrev pub array_of : {A : Type 0} → (A → Data) → List A → Data
+array_of data_for xs = array (items_of (map data_for xs))
+
+-- [word, session]
+abbrev pub session_event : List ℕ → ℕ → Data
+session_event word session = array (item (string word) (item (whole session) no_items))
+
+-- [word]
+abbrev pub group_event : List ℕ → Data
+group_event word = array (item (string word) no_items)
+
+abbrev pub event_data : Event → Data
+event_data (event.Hold session) = session_event (codes "hold") session
+event_data (event.Check session) = session_event (codes "check") session
+event_data (event.Enqueue session) = session_event (codes "enqueue") session
+event_data (event.Read session) = session_event (codes "read") session
+event_data event.Quiesce = group_event (codes "quiesce")
+event_data event.Begin = group_event (codes "begin")
+event_data (event.Sync session) = session_event (codes "sync") session
+event_data event.End = group_event (codes "end")
+event_data (event.Take session) = session_event (codes "take") session
+
+-- an error number, with the first 256 details where there are any
+abbrev pub verdict_data : ℕ → List (List ℕ) → Data
+verdict_data errno [] = object (member (codes "errno") (whole errno) no_members)
+verdict_data errno (detail ∷ details) =
+    object (member (codes "details") (array_of string (take 256 (detail ∷ details)))
+    (member (codes "errno") (whole errno) no_members))
+
+abbrev pub reply_data : Reply → Data
+reply_data (reply.Errno verdict) = verdict_data verdict.errno verdict.details
+reply_data (reply.Exists there) =
+    object (member (codes "errno") (whole 0) (member (codes "exists") (boolean there) no_members))

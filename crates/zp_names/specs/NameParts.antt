@@ -1,0 +1,37 @@
+-- What a name is made of.
+use Rattle.std.specs.Prelude.{ℕ, ◌==◌, ◌&&◌, Bool, nat_eq, not, if◌then◌else◌, List, [], ◌∷◌, ◌++◌, Option, Some, None, find}
+use Rattle.std.specs.List.{before_first, before_last, list_any, starts_with}
+use Rattle.zp_names.specs.declared.form.Form.{Form}
+use Rattle.zp_names.specs.declared.form.Form.TheVariants as form
+use Rattle.zp_names.specs.Names.{is_slash, is_mark, is_separator, is_head}
+
+-- the form that a mark gives a name
+abbrev pub form_by : Option ℕ → Form
+form_by None = form.Head
+form_by (Some b) = if b == 64 then form.Snap else form.Bookmark
+
+-- the form of a name, by its mark
+abbrev pub form_of : List ℕ → Form
+form_of t = form_by (find is_mark t)
+
+-- a name of this form, from its head and its short name
+abbrev pub written : Form → List ℕ → List ℕ → List ℕ
+written form.Head head short = head
+written form.Snap head short = head ++ (64 ∷ short)
+written form.Bookmark head short = head ++ (35 ∷ short)
+
+-- the first part: the pool
+abbrev pub pool_of : List ℕ → List ℕ
+pool_of t = before_first is_separator t
+
+-- a name of one part without a mark: that of a pool
+abbrev pub is_pool : List ℕ → Bool
+is_pool t = not (list_any is_separator t)
+
+-- the name without its last part, of a head of two or more parts
+abbrev pub parent_of : List ℕ → Option (List ℕ)
+parent_of t = if is_head t && list_any is_slash t then Some (before_last is_slash t) else None
+
+-- of two heads, the first begins with the second and a slash
+abbrev pub is_below : List ℕ → List ℕ → Bool
+is_below x y = is_head x && is_head y && starts_with nat_eq x (y ++ 47 ∷ [])

@@ -1,0 +1,57 @@
+ghost use Rattle.std.specs.Prelude.{◌≡◌, IfOk};
+
+use std::alloc::Global;
+use zc_io::NoMemory;
+use zp_names::{Bytes, Sequence};
+
+/// The value of a property: zfsprops(7).
+#[derive(Debug, Drop)]
+pub enum PropValue {
+    Number(u64),
+    Text(Bytes),
+}
+
+/// A property that is set on a dataset itself: zfs-set(8).
+#[derive(Debug, Drop)]
+pub struct Setting {
+    pub name: Bytes,
+    pub value: PropValue,
+}
+
+/// The settings of one dataset, in the order in which they were first set. Contracts see a list.
+pub type Settings = Sequence<Setting>;
+
+impl PropValue {
+    /// The same value once more.
+    pub fn copy(&self, alloc: Global) -> Result<PropValue, NoMemory>
+        ensures { IfOk result (λ copy. copy ≡ self.now) }
+    {
+        match self {
+            PropValue::Number(number) => Ok(PropValue::Number(*number)),
+            PropValue::Text(text) => Ok(PropValue::Text(text.copy(alloc)?)),
+        }
+    }
+}
+
+impl Setting {
+    /// The same setting once more.
+    pub fn copy(&self, alloc: Global) -> Result<Setting, NoMemory>
+        ensures { IfOk result (λ copy. copy ≡ self.now) }
+    {
+        Ok(Setting {
+            name: self.name.copy(alloc)?,
+            value: self.value.copy(alloc)?,
+        })
+    }
+}
+
+/// The same settings once more.
+pub fn copy_settings(alloc: Global, settings: &[Setting]) -> Result<Settings, NoMemory>
+    ensures { IfOk result (λ copy. copy ≡ settings.now) }
+{
+    let mut copies = Vec::new(alloc);
+    for setting in settings {
+        copies.push(setting.copy(alloc)?)?;
+    }
+    Ok(Sequence::from_vec(copies))
+}

@@ -1,0 +1,15 @@
+-- Every command and every query: a line each.
+use Rattle.std.specs.Prelude.{ℕ, Bool}
+use Rattle.zp_names.specs.declared.command.Command.{Command}
+use Rattle.zp_names.specs.declared.command.Command.TheVariants as command
+use Rattle.zp_names.specs.declared.verdict.Verdict.{Verdict}
+use Rattle.zp_tree.specs.Tree.{Tree}
+use Rattle.zp_tree.specs.Create.{create_check, create_change}
+
+-- the verdict on a command
+abbrev pub check_of : Tree → Command → Verdict
+check_of t (command.Create name) = create_check t name
+
+-- the tree after a command, in a transaction group
+abbrev pub change_of : Tree → Command → ℕ → Tree
+change_of t (command.Create name) txg = create_change t name txg

@@ -1,0 +1,64 @@
+ghost use Rattle.std.specs.Prelude.{◌≡◌, ℕ, ◌+◌, ◌<◌, ◌≤◌, ◌^◌, length, IsSome, OnOk, IfOk, option_map};
+ghost use Rattle.zp_tree.specs.Tree.{Tree, at, id_of, put, without, Finds, Rises};
+ghost use Rattle.zp_tree.specs.Create.{added};
+
+use crate::Item;
+use std::alloc::Global;
+use zc_io::NoMemory;
+use zp_names::Name;
+
+/// A tree of datasets, however it is kept. None of its look-ups takes memory.
+pub trait Datasets: Drop {
+    /// What it contains.
+    ghost tree: { Self → Tree };
+
+    /// How many records it takes without memory.
+    ghost room: { Self → ℕ };
+
+    /// The id of a record with this full name; none where no record has it.
+    fn find(&self, name: &Name) -> Option<u64>
+        ensures { Finds (tree self.now).records name.now result };
+
+    /// The record with this id; none where there is none.
+    fn item(&self, id: u64) -> Option<&Item>
+        ensures { option_map (λ r. r.now) result ≡ at (tree self.now).records id };
+
+    /// How many records there are.
+    fn len(&self) -> u64
+        ensures { result ≡ length (tree self.now).records };
+
+    /// The id that the next record takes. The ids of the records rise in order of birth and are below it.
+    fn next_id(&self) -> u64
+        ensures next { result ≡ (tree self.now).next }
+        ensures rises { Rises 0 (tree self.now).records (tree self.now).next };
+
+    /// A tree with the same contents.
+    fn copy(&self, alloc: Global) -> Result<Self, NoMemory>
+        ensures { IfOk result (λ t. tree t ≡ tree self.now) };
+
+    /// Takes room for so many further records.
+    fn reserve(&mut self, records: u64) -> Result<(), NoMemory>
+        ensures same { tree self.new ≡ tree self.old }
+        ensures room { OnOk result (records ≤ room self.new) };
+
+    /// Adds a record, which goes last.
+    fn add(&mut self, item: Item)
+        requires room { 0 < room self.old }
+        requires next { id_of item ≡ (tree self.old).next }
+        requires fits { (tree self.old).next + 1 < 2 ^ 64 }
+        ensures tree { tree self.new ≡ added (tree self.old) item }
+        ensures room { room self.old ≤ room self.new + 1 };
+
+    /// Takes the record with this id out.
+    fn remove(&mut self, id: u64)
+        requires { IsSome (at (tree self.old).records id) }
+        ensures tree { tree self.new ≡ record (tree self.old) { records = without id (tree self.old).records } }
+        ensures room { room self.old ≤ room self.new };
+
+    /// Puts a record in the place of the one with this id.
+    fn replace(&mut self, id: u64, item: Item)
+        requires there { IsSome (at (tree self.old).records id) }
+        requires same { id_of item ≡ id }
+        ensures tree { tree self.new ≡ record (tree self.old) { records = put item (tree self.old).records } }
+        ensures room { room self.old ≤ room self.new };
+}
