@@ -6,3 +6,4 @@ pub mod Allowing
 pub mod Ready
 pub mod Replies
 pub mod CallsLemmas
+pub mod Driving

@@ -128,13 +128,6 @@ abbrev pub NotWaiting : {C R : Type 0} → Phase C R → Type 0
 NotWaiting (waiting c) = ⊥
 NotWaiting _ = Unit {0}
 
-pub not-is_waiting : {C R : Type 0} (p q : Phase C R) → p ≡ q → NotWaiting q → is_waiting p ≡ false
-not-is_waiting p idle e n = ap is_waiting e
-not-is_waiting p (holding c) e n = ap is_waiting e
-not-is_waiting p (checked c) e n = ap is_waiting e
-not-is_waiting p (waiting c) e n = absurd n
-not-is_waiting p (decided c r) e n = ap is_waiting e
-
 -- who doesn't wait passes for no group
 waits-fails : {W C R : Type 0} (o : Origin W C R) (h : List (Entry C)) (g s : ℕ) → is_waiting (phase o h s) ≡ false → waits_in o h g s ≡ false
 waits-fails o h g s e = rw e

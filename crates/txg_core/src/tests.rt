@@ -1,11 +1,12 @@
 //! A counter: the core needs no pool.
-ghost use Rattle.std.specs.Prelude.{◌≡◌, List, IfSome, OnSome};
+ghost use Rattle.std.specs.Prelude.{◌≡◌, List, IfSome, OnSome, slice_get};
 ghost use Rattle.txg_core.specs.declared.object.Kind.{Kind as KindOf};
 ghost use Rattle.txg_core.specs.Rules.{Origin};
 ghost use Rattle.txg_core.specs.Serial.{next};
 ghost use Rattle.txg_core.specs.Stands.{Stands, IsStanding};
 ghost use Rattle.txg_core.specs.Sessions.{holding};
-ghost use Rattle.txg_core.specs.Driven.{IsAt};
+ghost use Rattle.txg_core.specs.Allowed.{at_session};
+ghost use Rattle.txg_core.specs.Driven.{IsAt, is_queued};
 ghost use Rattle.txg_core.specs.Counter.{sum_within};
 
 use crate::session::Progress;
@@ -74,12 +75,7 @@ impl SerialObject for Counter {
         }
     }
 
-    fn apply(
-        &mut self,
-        _alloc: Global,
-        call: &Option<u64>,
-        _txg: u64,
-    ) -> Result<u64, NoMemory> {
+    fn apply(&mut self, _alloc: Global, call: &Option<u64>, _txg: u64) -> Result<u64, NoMemory> {
         if let Some(n) = *call {
             if let Some(sum) = self.sum(n) {
                 self.value = sum;
@@ -123,19 +119,30 @@ fn hold<O: SerialObject + Drop>(core: &mut Core<O>, session: u32, call: &O::Call
 fn check_and_enqueue<O: SerialObject + Drop>(
     alloc: Global,
     core: &mut Core<O>,
-    task: Arc<Task<O>>,
+    session: u32,
+    call_no: u32,
+    call: O::Call,
 ) -> Result<Checked<O::Reply>, NoMemory>
-    requires at { IsAt O.means core.old task.value.session task.value.call_no (holding task.value.call) }
-    requires change { O.kind_of task.value.call ≡ KindOf.Change }
+    requires at { IsAt O.means core.old session call_no (holding call) }
+    requires change { O.kind_of call ≡ KindOf.Change }
     ensures { IsStanding O.means core.new }
 {
-    if !core.enabled(&Event::Check(task.session)) {
+    if !core.enabled(&Event::Check(session)) {
         return Err(NoMemory);
     }
-    let verdict = core.check(alloc, task.session, &task.call)?;
-    if core.enabled(&Event::Enqueue(task.session)) {
-        core.enqueue(task);
+    let verdict = core.check(alloc, session, &call)?;
+    if !core.enabled(&Event::Enqueue(session)) {
+        return Ok(verdict);
     }
+    let task = Arc::new(
+        alloc,
+        Task {
+            session,
+            call_no,
+            call,
+        },
+    )?;
+    core.enqueue(task);
     Ok(verdict)
 }
 
@@ -182,16 +189,28 @@ fn advance<O: SerialObject + Drop>(
     Ok(true)
 }
 
+/// Whether the session's call is queued, or decided by a sync.
+fn awaits<O: Stated + Drop>(core: &Core<O>, session: u32) -> bool
+    ensures { result ≡ at_session (λ x. is_queued x.progress) (slice_get core.now.sessions session) }
+{
+    core.sessions.get(session as usize).is_some_and(|x| matches!(
+        x.progress,
+        Progress::Waiting | Progress::Decided(_)
+    ))
+}
+
 /// Takes the reply, if the session's call is queued or decided by a sync.
 fn take<O: SerialObject + Drop>(core: &mut Core<O>, session: u32) -> Option<Result<Done<O>, NotYet>>
     requires { IsStanding O.means core.old }
     ensures { IsStanding O.means core.new }
 {
-    let place = core.sessions.get(session as usize)?;
-    if !matches!(place.progress, Progress::Waiting | Progress::Decided(_)) {
+    if !awaits(core, session) {
         return None;
     }
-    Some(core.take(session))
+    match core.take(session) {
+        Ok(done) => Some(Ok(done)),
+        Err(not_yet) => Some(Err(not_yet)),
+    }
 }
 
 fn submit(
@@ -206,43 +225,62 @@ fn submit(
     let Some(call_no) = hold(core, session, &call) else {
         return Ok(None);
     };
-    let task = Arc::new(
-        alloc,
-        Task {
-            session,
-            call_no,
-            call,
-        },
-    )?;
-    Ok(Some(check_and_enqueue(alloc, core, task)?))
+    Ok(Some(check_and_enqueue(alloc, core, session, call_no, call)?))
 }
 
 #[test]
 fn drives_all_events(rt: HostRuntime) -> Result<(), Fail> {
     let alloc = rt.alloc();
     let mut core = Core::new(alloc, Counter { value: 0 }, &[2, 2])?;
-    for session in 0..2 {
-        let verdict = submit(alloc, &mut core, session, Some(60))?;
-        assert!(rt; matches!(verdict, Some(Checked::Passed)));
-    }
+    let first = submit(alloc, &mut core, 0, Some(60))?;
+    assert!(rt; matches!(first, Some(Checked::Passed)));
+    let second = submit(alloc, &mut core, 1, Some(60))?;
+    assert!(rt; matches!(second, Some(Checked::Passed)));
     assert!(rt; advance(alloc, &mut core, Event::Quiesce)?);
-    assert!(rt; matches!(take(&mut core, 0), Some(Err(NotYet { group: 1, synced: 0 }))));
+    assert!(rt;
+        matches!(
+            take(&mut core, 0),
+            Some(Err(NotYet {
+                group: 1,
+                synced: 0
+            }))
+        )
+    );
     assert!(rt; advance(alloc, &mut core, Event::Begin)?);
     assert!(rt; advance(alloc, &mut core, Event::Sync(0))?);
     assert!(rt; !advance(alloc, &mut core, Event::End)?);
     assert!(rt; advance(alloc, &mut core, Event::Sync(1))?);
-    assert!(rt; matches!(take(&mut core, 0), Some(Err(NotYet { group: 1, synced: 0 }))));
+    assert!(rt;
+        matches!(
+            take(&mut core, 0),
+            Some(Err(NotYet {
+                group: 1,
+                synced: 0
+            }))
+        )
+    );
     assert!(rt; advance(alloc, &mut core, Event::End)?);
-    for session in 0..2 {
-        let Some(Ok(done)) = take(&mut core, session) else {
-            panic!(rt; "no reply");
-        };
-        assert_eq!(rt; (done.session, done.call_no, done.txg, done.reply), (session, 0, 1, 60));
-    }
+    let Some(Ok(done)) = take(&mut core, 0) else {
+        panic!(rt; "no reply");
+    };
+    assert_eq!(rt;
+        (done.session, done.call_no, done.txg, done.reply),
+        (0, 0, 1, 60)
+    );
+    let Some(Ok(done)) = take(&mut core, 1) else {
+        panic!(rt; "no reply");
+    };
+    assert_eq!(rt;
+        (done.session, done.call_no, done.txg, done.reply),
+        (1, 0, 1, 60)
+    );
     let refused = submit(alloc, &mut core, 0, Some(50))?;
     assert!(rt; matches!(refused, Some(Checked::Refused(60))));
     assert_eq!(rt; read(alloc, &mut core, 1, &None)?, Some(60));
     assert_eq!(rt; read(alloc, &mut core, 1, &None)?, None);
-    assert_eq!(rt; (core.synced(), core.open_group(), core.journal().len()), (1, 2, 16));
+    assert_eq!(rt;
+        (core.synced(), core.open_group(), core.journal().len()),
+        (1, 2, 16)
+    );
     Ok(())
 }

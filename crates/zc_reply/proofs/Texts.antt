@@ -17,5 +17,6 @@ names_ascii (b ∷ bs) e (suc i) = names_ascii bs (and_parts _ _ e).1 i
 
 -- a valid short name is UTF-8
 pub valid_short_utf8 : (s : List ℕ) → is_valid_short s ≡ true → IsUtf8 s
+unfolding is_valid_short
 valid_short_utf8 [] e = cc
 valid_short_utf8 (b ∷ bs) e = IsUtf8-from_ascii (b ∷ bs) (names_ascii (b ∷ bs) e)

@@ -1,0 +1,8 @@
+pub mod Values
+pub mod Documents
+pub mod CreateLaw
+pub mod Given
+pub mod Steps
+pub mod Printable
+pub mod Finish
+pub mod Answer

@@ -1,0 +1,100 @@
+-- Which document the bytes are: one JSON object (RFC 8259) of the form that is built so far.
+use Rattle.std.specs.Prelude.{ℕ, ◌^◌, ◌&&◌, Bool, nat_le, if◌then◌else◌, List, length, codes, bytes_eq, Option, Some, None}
+use Rattle.std.specs.Str.{is_utf8}
+use Rattle.serde_json.specs.Data.{Data, string, Items, no_items, item}
+use Rattle.serde_json.specs.Read.{read}
+use Rattle.serde_json.specs.Find.{as_str, as_array}
+use Rattle.zp_names.specs.Names.{is_valid_name}
+use Rattle.zp_names.specs.NameParts.{is_pool, pool_of}
+use Rattle.zp_names.specs.declared.command.Command.TheVariants.{Create}
+use Rattle.zp_names.specs.declared.command.Query.TheVariants.{Exists}
+use Rattle.txg_core.specs.declared.event.Event.{Event}
+use Rattle.txg_core.specs.declared.event.Event.TheVariants as event
+use Rattle.zp_calls.specs.declared.call.Call.{Call}
+use Rattle.zp_calls.specs.declared.call.Call.TheVariants as call
+use Rattle.zcpd.specs.declared.document.Document.{Document}
+use Rattle.zcpd.specs.Reading.{◌>>=◌, where_passes, number_below, member, has_width, array_within, is_empty_array, is_empty_object, only_if, member_passes}
+
+-- ---- names
+
+-- a valid name
+abbrev pub any_name_at : Data → Option (List ℕ)
+any_name_at d = as_str d >>= where_passes is_valid_name
+
+-- the name of a pool: one part, no mark
+abbrev pub pool_at : Data → Option (List ℕ)
+pool_at d = any_name_at d >>= where_passes is_pool
+
+-- a name in the pool
+abbrev pub name_at : List ℕ → Data → Option (List ℕ)
+name_at pool d = any_name_at d >>= where_passes (λ name. bytes_eq (pool_of name) pool)
+
+-- ---- calls
+
+abbrev pub call_of : List ℕ → List ℕ → Option Call
+call_of op name = if bytes_eq op (codes "create") then Some (call.Command (Create name)) else (if bytes_eq op (codes "exists") then Some (call.Query (Exists name)) else None)
+
+-- {"name": .., "op": ..}
+unfoldable pub call_members : List ℕ → Data → Option Call
+call_members pool d = do
+  op ← member as_str (codes "op") d
+  name ← member (name_at pool) (codes "name") d
+  call_of op name
+
+abbrev pub call_at : List ℕ → Data → Option Call
+call_at pool d = only_if (has_width 2 d) (call_members pool d)
+
+-- ---- events
+
+abbrev pub group_event : List ℕ → Option Event
+group_event w = if bytes_eq w (codes "quiesce") then Some event.Quiesce else (if bytes_eq w (codes "begin") then Some event.Begin else (if bytes_eq w (codes "end") then Some event.End else None))
+
+abbrev pub session_event : List ℕ → ℕ → Option Event
+session_event w s =
+    if bytes_eq w (codes "hold") then Some (event.Hold s) else (if bytes_eq w (codes "check") then Some (event.Check s) else (if bytes_eq w (codes "enqueue") then Some (event.Enqueue s) else
+    (if bytes_eq w (codes "read") then Some (event.Read s) else (if bytes_eq w (codes "sync") then Some (event.Sync s) else (if bytes_eq w (codes "take") then Some (event.Take s) else None)))))
+
+-- ["quiesce"], or ["hold", s] with s below the number of sessions
+abbrev pub event_of : ℕ → Items → Option Event
+event_of sessions (item (string w) no_items) = group_event w
+event_of sessions (item (string w) (item d no_items)) = number_below sessions d >>= session_event w
+event_of sessions _ = None
+
+abbrev pub event_at : ℕ → Data → Option Event
+event_at sessions d = as_array d >>= event_of sessions
+
+-- ---- the document
+
+abbrev pub most_sessions : ℕ
+most_sessions = 1
+
+abbrev pub most_calls : ℕ
+most_calls = 1000
+
+abbrev pub most_events : ℕ
+most_events = 128000
+
+abbrev pub most_bytes : ℕ
+most_bytes = 16777216
+
+unfoldable pub document_members : Data → Option Document
+document_members d = do
+  pool ← member pool_at (codes "pool") d
+  now ← member (number_below (2 ^ 63)) (codes "now") d
+  sessions ← member (array_within most_sessions (array_within most_calls (call_at pool))) (codes "sessions") d
+  schedule ← member (array_within most_events (event_at (length sessions))) (codes "schedule") d
+  Some (record { pool = pool; now = now; sessions = sessions; schedule = schedule })
+
+-- an object with just the six members, of which `setup` and `programs` are empty
+abbrev pub has_form : Data → Bool
+has_form d = has_width 6 d && (member_passes is_empty_array (codes "setup") d && member_passes is_empty_object (codes "programs") d)
+
+abbrev pub document_at : Data → Option Document
+document_at d = only_if (has_form d) (document_members d)
+
+abbrev pub data_of : List ℕ → Option Data
+data_of bytes = if is_utf8 bytes then read bytes else None
+
+-- the document that the bytes are
+unfoldable pub document_of : List ℕ → Option Document
+document_of bytes = if nat_le (length bytes) most_bytes then data_of bytes >>= document_at else None

@@ -1,0 +1,118 @@
+//! The top call.
+
+ghost use Rattle.std.specs.Prelude.{◌≡◌, ◌≢◌, ◌≤◌, ◌↔◌, ◌⊎◌, ℕ, List, true, false, length, Some, IfSome, MatchResult, string_bytes};
+ghost use Rattle.std.specs.Io.KnownBytes.{Keeps};
+ghost use Rattle.zc_io.specs.Causes.{Rose};
+ghost use Rattle.zcpd.specs.Words.{asks_replay};
+ghost use Rattle.zcpd.specs.Document.{most_bytes};
+ghost use Rattle.zcpd.specs.Headline.{IsOutput, IsNotDocument, IsNotEnabled, HasOutput, Explains, Writes, WritesFront};
+ghost use Rattle.zcpd.specs.declared.document.error.DocError.{DocError as DocErrorOf};
+
+use crate::Status;
+use crate::document::{DocError, MOST_BYTES, read_document};
+use crate::pool::Pool;
+use crate::replay::{Halt, replay};
+use std::alloc::Global;
+use zc_io::{ReadFailure, Sink, Source, read_all, write_all};
+use zc_reply::render;
+use zp_tree::PlainTree;
+
+fn asks_replay(words: &[String]) -> bool
+    ensures { result ≡ asks_replay words.now }
+{
+    match words {
+        [word] => word.as_str() == "replay",
+        _ => false,
+    }
+}
+
+/// The output of the run that a document's schedule asks for, or why there is none.
+fn output_of(alloc: Global, bytes: &[u8]) -> Result<String, Status>
+    requires { length bytes.now ≤ most_bytes }
+    ensures { MatchResult result (λ text. IsOutput bytes.now (string_bytes text)) (λ status. Explains bytes.now status) }
+{
+    let document = match read_document(alloc, bytes) {
+        Ok(document) => document,
+        Err(DocError::NotBuilt) => return Err(Status::BadDocument(DocError::NotBuilt)),
+        Err(DocError::NoMemory) => return Err(Status::NoMemory),
+    };
+    let Ok(tree) = PlainTree::new(alloc, &document.pool) else {
+        return Err(Status::NoMemory);
+    };
+    let run = match replay(
+        alloc,
+        Pool::new(tree),
+        document.sessions.as_slice(),
+        document.schedule.as_slice(),
+    ) {
+        Ok(run) => run,
+        Err(Halt::NotEnabled(event)) => return Err(Status::NotEnabled(event)),
+        Err(Halt::NoMemory) => return Err(Status::NoMemory),
+    };
+    let core = &run.core;
+    let rendered = render(
+        alloc,
+        core.journal(),
+        run.replies.as_slice(),
+        core.object().tree(),
+        core.synced(),
+    );
+    match rendered {
+        Ok(text) => Ok(text),
+        Err(_) => Err(Status::NoMemory),
+    }
+}
+
+/// Does what the words ask, from the source to the sink.
+///
+/// The order of refusals is usage, reading, document, schedule, writing. Want of memory may come in
+/// place of any of them, and never after a byte was written.
+pub fn offline<S: Source, K: Sink>(
+    alloc: Global,
+    words: &[String],
+    source: &mut S,
+    sink: &mut K,
+) -> Status
+    // Under Ok, all of the input is a document, its schedule is a legal run of it, and the whole
+    // output of this run was written.
+    ensures headline { result ≡ Status.Ok → (asks_replay words.now ≡ true) × IfSome (S.left source.old)
+        (λ input. Writes (K.written sink.old) (K.written sink.new) input) }
+
+    // Usage comes exactly where the words ask for nothing that is done; then nothing is read.
+    ensures usage { (result ≡ Status.Usage) ↔ (asks_replay words.now ≡ false) }
+    ensures unread { result ≡ Status.Usage → source.new ≡ source.old }
+
+    // The document, or the event of its schedule, that is refused.
+    ensures document { (e : DocErrorOf) → result ≡ Status.BadDocument e → IfSome (S.left source.old) (λ input. IsNotDocument input e) }
+    ensures event { (i : ℕ) → result ≡ Status.NotEnabled i → IfSome (S.left source.old) (λ input. IsNotEnabled input i) }
+
+    // A fault comes only from the source or the sink.
+    ensures read { result ≡ Status.ReadFault → Rose (S.faults source.old) (S.faults source.new) }
+    ensures write { result ≡ Status.WriteFault → Rose (K.faults sink.old) (K.faults sink.new) }
+    ensures prefix { result ≡ Status.WriteFault → IfSome (S.left source.old)
+        (λ input. WritesFront (K.written sink.old) (K.written sink.new) input) }
+    ensures quiet { result ≢ Status.Ok → result ≢ Status.WriteFault → Keeps (K.written sink.old) (K.written sink.new) }
+
+    // Where nothing is to be refused, all is written, or there was no memory.
+    ensures complete { (input : List ℕ) → asks_replay words.now ≡ true → S.left source.old ≡ Some input → HasOutput input →
+        ¬ Rose (S.faults source.old) (S.faults source.new) → ¬ Rose (K.faults sink.old) (K.faults sink.new) →
+        (result ≡ Status.Ok) ⊎ (result ≡ Status.NoMemory) }
+{
+    if !asks_replay(words) {
+        return Status::Usage;
+    }
+    let bytes = match read_all(alloc, source, MOST_BYTES) {
+        Ok(bytes) => bytes,
+        Err(ReadFailure::Fault) => return Status::ReadFault,
+        Err(ReadFailure::TooLong(_)) => return Status::BadDocument(DocError::NotBuilt),
+        Err(ReadFailure::NoMemory) => return Status::NoMemory,
+    };
+    let text = match output_of(alloc, bytes.as_slice()) {
+        Ok(text) => text,
+        Err(status) => return status,
+    };
+    match write_all(sink, text.as_bytes()) {
+        Ok(()) => Status::Ok,
+        Err(_) => Status::WriteFault,
+    }
+}

@@ -1,0 +1,153 @@
+//! The pool as the object of the core: its tree, and the moment of its holds.
+
+ghost use Rattle.std.specs.Prelude.{◌≡◌, IfOk, OnOk, OnErr};
+ghost use Rattle.zp_tree.specs.WellFormed.{IsWellFormed};
+ghost use Rattle.zp_tree.specs.Commands.{check_of, change_of};
+ghost use Rattle.zp_tree.specs.Rows.{passed};
+ghost use Rattle.zcpd.specs.Pool.{answer_of};
+
+use crate::create::{apply_create, check_create};
+use std::alloc::Global;
+use std::marker::Model;
+use txg_core::{Kind, SerialObject, Stated};
+use zc_io::NoMemory;
+use zp_calls::{Call, Reply};
+use zp_names::{Command, Query, Verdict};
+use zp_tree::{Datasets, exists};
+
+/// A pool, over any kind of tree. The tree is well formed.
+#[derive(Drop)]
+pub struct Pool<T: Datasets> {
+    tree: T,
+}
+
+impl<T: Datasets> Model for Pool<T> {
+    ghost use Rattle.zp_tree.specs.WellFormed.{IsWellFormed};
+
+    ghost Value = { T };
+
+    ghost coded = { T.code };
+
+    ghost view = { λ a. a.tree };
+
+    ghost invariant = { λ a. IsWellFormed (T.tree a.tree) };
+}
+
+impl<T: Datasets> Pool<T> {
+    pub fn new(tree: T) -> Pool<T>
+        requires { IsWellFormed (T.tree tree) }
+        ensures { result ≡ tree }
+    {
+        Pool { tree }
+    }
+
+    /// The tree as it now stands.
+    pub fn tree(&self) -> &T
+        ensures tree { result.now ≡ self.now }
+        ensures well { IsWellFormed (T.tree self.now) }
+    {
+        &self.tree
+    }
+}
+
+fn check<T: Datasets>(alloc: Global, tree: &T, command: &Command) -> Result<Verdict, NoMemory>
+    requires { IsWellFormed (T.tree tree.now) }
+    ensures { IfOk result (λ verdict. verdict ≡ check_of (T.tree tree.now) command.now) }
+{
+    match command {
+        Command::Create { name } => check_create(alloc, tree, name),
+    }
+}
+
+fn apply<T: Datasets>(
+    alloc: Global,
+    tree: &mut T,
+    command: &Command,
+    txg: u64,
+) -> Result<(), NoMemory>
+    requires well { IsWellFormed (T.tree tree.old) }
+    requires passed { check_of (T.tree tree.old) command.now ≡ passed }
+    ensures ok { OnOk result (T.tree tree.new ≡ change_of (T.tree tree.old) command.now txg) }
+    ensures well { IsWellFormed (T.tree tree.new) }
+    ensures err { OnErr result (T.tree tree.new ≡ T.tree tree.old) }
+{
+    match command {
+        Command::Create { name } => apply_create(alloc, tree, name, txg),
+    }
+}
+
+fn answer<T: Datasets>(tree: &T, query: &Query) -> Reply
+    ensures { result ≡ answer_of (T.tree tree.now) query.now }
+{
+    match query {
+        Query::Exists { name } => Reply::Exists(exists(tree, name)),
+    }
+}
+
+impl<T: Datasets> Stated for Pool<T> {
+    type Call = Call;
+
+    type Reply = Reply;
+
+    ghost use Rattle.zp_tree.specs.Tree.{Tree};
+    ghost use Rattle.std.specs.Prelude.{refl};
+    ghost use Rattle.zcpd.specs.Pool.{kind_of, pool_means};
+    ghost use Rattle.zcpd.specs.PoolLaws.{pool_lawful};
+
+    ghost World = { Tree };
+
+    ghost means = { pool_means T.tree };
+
+    ghost kind_of = { kind_of };
+
+    ghost lawful = { λ _. pool_lawful };
+
+    ghost kind_is = { λ _ c. refl };
+
+    fn kind(&self, call: &Call) -> Kind {
+        match call {
+            Call::Command(_) => Kind::Change,
+            Call::Query(_) => Kind::Query,
+        }
+    }
+
+    fn copy(&self, alloc: Global) -> Result<Self, NoMemory> {
+        Ok(Pool {
+            tree: self.tree.copy(alloc)?,
+        })
+    }
+}
+
+impl<T: Datasets> SerialObject for Pool<T> {
+    fn check(&self, alloc: Global, call: &Call) -> Result<Option<Reply>, NoMemory> {
+        let Call::Command(command) = call else {
+            return Ok(None);
+        };
+        let verdict = check(alloc, &self.tree, command)?;
+        if verdict.errno == 0 {
+            Ok(None)
+        } else {
+            Ok(Some(Reply::Errno(verdict)))
+        }
+    }
+
+    fn apply(&mut self, alloc: Global, call: &Call, txg: u64) -> Result<Reply, NoMemory> {
+        match call {
+            Call::Command(command) => {
+                let verdict = check(alloc, &self.tree, command)?;
+                if verdict.errno == 0 {
+                    apply(alloc, &mut self.tree, command, txg)?;
+                }
+                Ok(Reply::Errno(verdict))
+            }
+            Call::Query(query) => Ok(answer(&self.tree, query)),
+        }
+    }
+
+    fn read(&self, _alloc: Global, call: &Call) -> Result<Reply, NoMemory> {
+        match call {
+            Call::Query(query) => Ok(answer(&self.tree, query)),
+            Call::Command(_) => unreachable!(),
+        }
+    }
+}
