@@ -17,9 +17,11 @@ use Rattle.zp_tree.proofs.Edits.{at-here, at-past}
 abbrev pub is_below : ℕ → Item → Bool
 is_below i r = nat_lt (id_of r) i
 
+-- a record below the id stays
 keeps : (i : ℕ) (r : Item) (rs : List Item) → id_of r < i → filter (is_below i) (r ∷ rs) ≡ r ∷ filter (is_below i) rs
 keeps i r rs lt = ap (λ b. cond b (r ∷ filter (is_below i) rs) (filter (is_below i) rs)) (lt-ltb (id_of r) i lt)
 
+-- one that is not goes
 skips : (i : ℕ) (r : Item) (rs : List Item) → i ≤ id_of r → filter (is_below i) (r ∷ rs) ≡ filter (is_below i) rs
 skips i r rs le = ap (λ b. cond b (r ∷ filter (is_below i) rs) (filter (is_below i) rs)) (le-ltb (id_of r) i le)
 

@@ -7,9 +7,11 @@ use Rattle.std.proofs.lemmas.Bool.Decides.{nat_tests}
 use Rattle.std.proofs.lemmas.Str.{IsUtf8-from_ascii}
 use Rattle.zp_names.specs.Names.{is_name_byte, is_valid_short}
 
+-- a byte of a name is ASCII
 name_ascii : (b : ℕ) → is_name_byte b ≡ true → b < 128
 name_ascii b e = grind (arith, nat_tests)
 
+-- so are all of them
 names_ascii : (s : List ℕ) → list_all is_name_byte s ≡ true → IsAscii s
 names_ascii [] e i = omega arith
 names_ascii (b ∷ bs) e zero = name_ascii b (and_parts _ _ e).0

@@ -7,6 +7,7 @@ use Rattle.txg_core.specs.declared.event.Event.TheVariants as event
 use Rattle.zp_calls.specs.declared.reply.Reply.{Reply}
 use Rattle.zp_calls.specs.declared.reply.Reply.TheVariants as reply
 
+-- a whole number
 abbrev pub whole : ℕ → Data
 whole n = number (unsigned n)
 
@@ -14,14 +15,15 @@ whole n = number (unsigned n)
 abbrev pub array_of : {A : Type 0} → (A → Data) → List A → Data
 array_of data_for xs = array (items_of (map data_for xs))
 
--- [word, session]
+-- what a session did: [word, session]
 abbrev pub session_event : List ℕ → ℕ → Data
 session_event word session = array (item (string word) (item (whole session) no_items))
 
--- [word]
+-- what moved a transaction group on: [word]
 abbrev pub group_event : List ℕ → Data
 group_event word = array (item (string word) no_items)
 
+-- an event of the journal
 abbrev pub event_data : Event → Data
 event_data (event.Hold session) = session_event (codes "hold") session
 event_data (event.Check session) = session_event (codes "check") session
@@ -40,6 +42,7 @@ verdict_data errno (detail ∷ details) =
     object (member (codes "details") (array_of string (take 256 (detail ∷ details)))
     (member (codes "errno") (whole errno) no_members))
 
+-- a reply to a command or to a question
 abbrev pub reply_data : Reply → Data
 reply_data (reply.Errno verdict) = verdict_data verdict.errno verdict.details
 reply_data (reply.Exists there) =

@@ -8,6 +8,7 @@ use Rattle.zp_calls.specs.declared.reply.Reply.{Reply}
 use Rattle.zc_reply.specs.Journal.{whole, array_of, event_data, reply_data}
 use Rattle.zc_reply.specs.Records.{record_data}
 
+-- the whole, before it is a text
 abbrev pub output_data : List Event → List (List Reply) → ℕ → List Item → Data
 output_data journal replies synced records =
     object (member (codes "journal") (array_of event_data journal)

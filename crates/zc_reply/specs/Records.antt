@@ -16,23 +16,25 @@ use Rattle.zp_tree.specs.declared.item.HeadKind.TheVariants.{Filesystem, Volume}
 use Rattle.zp_tree.specs.Tree.{at, full_name}
 use Rattle.zc_reply.specs.Journal.{whole, array_of}
 
+-- what a head is: zfs(8), "file system" and "volume"
 abbrev pub kind_text : HeadKind → List ℕ
 kind_text Filesystem = codes "filesystem"
 kind_text Volume = codes "volume"
 
--- a number or a text
+-- the value of a property: a number or a text
 abbrev pub value_data : PropValue → Data
 value_data (value.Number number) = whole number
 value_data (value.Text text) = string text
 
+-- the members, with the value of one more setting at its name
 abbrev pub put_setting : Members → Setting → Members
 put_setting members setting = put setting.name (value_data setting.value) members
 
--- each value at its setting's name
+-- the settings by name, in byte order
 abbrev pub settings_data : List Setting → Data
 settings_data settings = object (fold put_setting no_members settings)
 
--- [tag, moment]
+-- a hold: [tag, moment]
 abbrev pub hold_data : Hold → Data
 hold_data hold = array (item (string hold.tag) (item (whole hold.at) no_items))
 

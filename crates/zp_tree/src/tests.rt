@@ -1,10 +1,15 @@
+ghost use Rattle.std.specs.Prelude.{◌≡◌, IfOk};
+ghost use Rattle.zp_tree.specs.Tree.{id_of};
+
 use super::*;
 use std::alloc::Global;
 use std::test::Fail;
 use zp_names::{Bytes, Name};
 use zp_props::Settings;
 
-fn file_system(alloc: Global, id: u64, name: &[u8]) -> Result<Item, Fail> {
+fn file_system(alloc: Global, id: u64, name: &[u8]) -> Result<Item, Fail>
+    ensures { IfOk result (λ item. id_of item ≡ id) }
+{
     Ok(Item::Head(Head {
         id,
         name: Name::read(alloc, name)?,

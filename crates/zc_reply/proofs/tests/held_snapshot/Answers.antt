@@ -11,18 +11,24 @@ use Rattle.zp_tree.specs.declared.item.Hold.{Hold}
 use Rattle.zc_reply.proofs.Texts.{valid_short_utf8}
 use Rattle.zc_reply.proofs.tests.held_snapshot.Goals as goal
 
+-- no settings
 none : (settings : List Setting) → settings ≡ [] → AreSettings settings
 unfolding IsDistinct
 none settings e = rw e (record { distinct = tt; names = All-nil _; values = All-nil _ })
 
+-- one tag differs from no other
 tags : (holds : List Hold) (tag : List ℕ) → holds ≡ record { tag = tag; at = 99 } ∷ [] → IsDistinct bytes_eq (map (λ (h : Hold). h.tag) holds)
 unfolding IsDistinct
 tags holds tag e = rw e (tt, tt)
 
+-- the tag is UTF-8
 texts : (holds : List Hold) (tag : List ℕ) → holds ≡ record { tag = tag; at = 99 } ∷ [] → tag ≡ codes "keep" → All (λ (h : Hold). IsUtf8 h.tag) holds
+unfolding is_valid_short
 texts holds tag e f = rw (e, f) (All-from_recursion (λ (h : Hold). IsUtf8 h.tag) (record { tag = codes "keep"; at = 99 } ∷ []) (valid_short_utf8 (codes "keep") refl, tt))
 
+-- the short name is valid
 short : (s : List ℕ) → s ≡ codes "s" → is_valid_short s ≡ true
+unfolding is_valid_short
 short s e = rw e refl
 
 pub returns : goal.returns

@@ -14,12 +14,15 @@ use Rattle.zp_tree.specs.Create.{opening}
 use Rattle.zp_tree.proofs.Edits.{at-here, at-past}
 use Rattle.zc_reply.proofs.tests.new_pool.Goals as goal
 
+-- the root of the pool
 abbrev root : Head
 root = record { id = 1; name = codes "rpool"; kind = Filesystem; origin = None; settings = []; stamp = 0; mounted = false; createtxg = 0 }
 
+-- the records of the new pool
 abbrev records : List Item
 records = item.Head root ∷ []
 
+-- nothing is not something
 none_some : {A : Type 0} {a : A} → None ≡ Some a → ⊥
 none_some e = cc
 
@@ -30,12 +33,14 @@ from part i a e = elim (cases_eq 1 i) [
   | inr other ↦ absurd (none_some (sym (ap (option_and_then part) (at-past (item.Head root) [] i other)) ∙ e))
 ]
 
+-- the root has the first id
 first : (i : ℕ) → IsSome (at records i) → 1 ≤ i
 first i some = elim (cases_eq 1 i) [
   | inl same ↦ omega arith
   | inr other ↦ absurd (false≢true (subst (λ o. IsSome o) (at-past (item.Head root) [] i other) some))
 ]
 
+-- the root by itself
 root_is : IsHead root
 unfolding IsDistinct
 root_is = record {
@@ -45,6 +50,7 @@ root_is = record {
   size = λ e. absurd (cc);
 }
 
+-- each record by itself
 record_is : (i : ℕ) (r : Item) → at records i ≡ Some r → IsRecord r
 record_is i r e =
     let same : item.Head root ≡ r = some-same (from Some i r (ap (option_and_then Some) e)).1 in
@@ -53,9 +59,11 @@ record_is i r e =
     some-same : {A : Type 0} {a b : A} → Some a ≡ Some b → a ≡ b
     some-same h = cc
 
+-- the root has no origin
 no_origin : (d : Head) (o : ℕ) → Some root ≡ Some d → d.origin ≡ Some o → ⊥
 no_origin d o e is = cc
 
+-- the records of each other
 agrees : Agrees (at records)
 agrees = record {
   records = record_is;
@@ -70,6 +78,7 @@ agrees = record {
   deferred = λ i s there _. absurd (none_some (from as_snapshot i s there).1);
 }
 
+-- the tree
 well : IsWellFormed (opening (codes "rpool"))
 well = record { rises = (omega arith, omega arith); agrees = agrees; few_records = omega arith; few_settings = omega arith }
 

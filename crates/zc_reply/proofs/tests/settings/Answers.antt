@@ -9,9 +9,11 @@ use Rattle.zp_props.specs.Settings.{AreSettings, IsValue}
 use Rattle.zc_reply.proofs.Texts.{valid_short_utf8}
 use Rattle.zc_reply.proofs.tests.settings.Goals as goal
 
+-- two settings with these names
 abbrev of : List ℕ → List ℕ → List ℕ → List Setting
 of size note text = record { name = size; value = Number 1024 } ∷ record { name = note; value = Text text } ∷ []
 
+-- they are those of one record
 are : AreSettings (of (codes "volsize") (codes "org:note") (codes "a b"))
 unfolding IsDistinct
 are = record {
@@ -20,6 +22,7 @@ are = record {
   values = All-from_recursion (λ (s : Setting). IsValue s.value) (of (codes "volsize") (codes "org:note") (codes "a b")) (tt, (valid_short_utf8 (codes "a b") refl, tt));
 }
 
+-- so are those with equal names
 named : (size note text : List ℕ) → size ≡ codes "volsize" → note ≡ codes "org:note" → text ≡ codes "a b" → AreSettings (of size note text)
 named size note text e f h = rw (e, f, h) are
 
