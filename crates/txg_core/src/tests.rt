@@ -10,7 +10,10 @@ ghost use Rattle.txg_core.specs.Driven.{IsAt, is_queued};
 ghost use Rattle.txg_core.specs.Counter.{sum_within};
 
 use crate::session::Progress;
-use crate::{Checked, Core, Done, Entry, Event, Kind, NotYet, SerialObject, Stated, Task};
+use crate::{
+    Checked, Core, Done, Entry, Event, Kind, NotYet, SerialObject, Stated, Task, calls_in_order,
+    calls_known, eight_entries_a_call, history_of_events, left_alone, replies_given, waiting_list,
+};
 use std::alloc::Global;
 use std::sync::Arc;
 use std::test::Fail;
@@ -282,5 +285,20 @@ fn drives_all_events(rt: HostRuntime) -> Result<(), Fail> {
         (core.synced(), core.open_group(), core.journal().len()),
         (1, 2, 16)
     );
+    Ok(())
+}
+
+/// The laws do nothing. They can be called for any object.
+#[test]
+fn laws_are_for_a_counter_too(rt: HostRuntime) -> Result<(), Fail> {
+    eight_entries_a_call::<Counter>();
+    calls_in_order::<Counter>();
+    calls_known::<Counter>();
+    history_of_events::<Counter>();
+    waiting_list::<Counter>();
+    replies_given::<Counter>();
+    left_alone::<Counter>();
+    let copy = Counter { value: 7 }.copy(rt.alloc())?;
+    assert_eq!(rt; copy.value, 7);
     Ok(())
 }

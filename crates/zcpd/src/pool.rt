@@ -1,4 +1,4 @@
-//! The pool as the object of the core: its tree, and the moment of its holds.
+//! The pool as the object of the core.
 
 ghost use Rattle.std.specs.Prelude.{◌≡◌, IfOk, OnOk, OnErr};
 ghost use Rattle.zp_tree.specs.WellFormed.{IsWellFormed};
@@ -34,6 +34,7 @@ impl<T: Datasets> Model for Pool<T> {
 }
 
 impl<T: Datasets> Pool<T> {
+    /// The pool of this tree.
     pub fn new(tree: T) -> Pool<T>
         requires { IsWellFormed (T.tree tree) }
         ensures { result ≡ tree }

@@ -90,7 +90,10 @@ fn knows_one_word(rt: HostRuntime) -> Result<(), Fail> {
     let words = words(alloc, &["replay", "now"])?;
     let mut source = SureSource::new(EMPTY.as_bytes().to_vec(alloc)?);
     let mut sink = SureSink::new(alloc, ROOM)?;
-    assert_eq!(rt; offline(alloc, words.as_slice(), &mut source, &mut sink), Status::Usage);
+    assert_eq!(rt;
+        offline(alloc, words.as_slice(), &mut source, &mut sink),
+        Status::Usage
+    );
     assert!(rt; sink.bytes().is_empty());
     assert_eq!(rt; offline(alloc, &[], &mut source, &mut sink), Status::Usage);
     Ok(())

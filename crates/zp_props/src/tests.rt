@@ -18,7 +18,9 @@ fn settings_are_copied(rt: HostRuntime) -> Result<(), Fail> {
     let copies = copy_settings(alloc, settings.as_slice())?.into_vec();
     assert_eq!(rt; copies.len(), 2);
     assert!(rt; copies[0].name.as_slice() == b"org.example:owner".as_slice());
-    assert!(rt; matches!(&copies[0].value, PropValue::Text(text) if text.as_slice() == b"ops".as_slice()));
+    assert!(rt;
+        matches!(&copies[0].value, PropValue::Text(text) if text.as_slice() == b"ops".as_slice())
+    );
     assert!(rt; copies[1].name.as_slice() == b"volsize".as_slice());
     assert!(rt; matches!(copies[1].value, PropValue::Number(1024)));
     Ok(())
