@@ -1,3 +1,4 @@
 mod Ordered
 mod NoFloat
 mod Texts
+pub mod Telling

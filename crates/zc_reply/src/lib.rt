@@ -9,12 +9,14 @@ ghost use Rattle.zc_reply.specs.Output.{output_data, output_text};
 
 mod journal;
 mod json;
+mod laws;
 mod record;
 mod reply;
 #[cfg(test)]
 mod tests;
 
 use json::array_of;
+pub use laws::output_tells_its_journal;
 use record::records_value;
 use serde_json::{Value, json};
 use std::alloc::{AllocError, Global};

@@ -1,5 +1,5 @@
 -- Why an input that has an output is not refused, and one that is too long is no document.
-use Rattle.std.proofs.Common.{◌≡◌, ℕ, ◌+◌, ◌≤◌, ◌<◌, ◌⊎◌, List, length, Option, Some, None, cond, IfSome, refl, ap, subst, arith, inr}
+use Rattle.std.proofs.Common.{◌≡◌, ℕ, ◌+◌, ◌≤◌, ◌<◌, ◌⊎◌, List, length, Option, Some, None, cond, IfSome, refl, ap, subst, arith, inl, inr}
 use Rattle.std.proofs.lemmas.Bool.{lt-leb}
 use Rattle.zc_io.specs.Reading.{TakesFirst}
 use Rattle.zcpd.specs.declared.document.error.DocError.{DocError}
@@ -8,8 +8,8 @@ use Rattle.zcpd.specs.declared.status.Status.{Status}
 use Rattle.zcpd.specs.declared.status.Status.TheVariants as status
 use Rattle.zcpd.specs.Reading.{◌>>=◌}
 use Rattle.zcpd.specs.Document.{document_of, document_at, data_of, most_bytes}
-use Rattle.zcpd.specs.Headline.{IsNotDocument, HasOutput, Explains}
-use Rattle.zcpd.proofs.Finish.{runs-or-stops, is-or-not}
+use Rattle.zcpd.specs.Headline.{IsNotDocument, IsNotEnabled, IsOutput, HasOutput, Explains}
+use Rattle.zcpd.proofs.Finish.{runs-or-stops, is-or-not, one-refusal, refused-is}
 
 too-long : (bytes : List ℕ) → most_bytes < length bytes → document_of bytes ≡ None
 unfolding document_of
@@ -47,3 +47,25 @@ explained input bytes s same out why = meets s (subst (λ (x : List ℕ). Explai
     meets status.ReadFault why = absurd why
     meets status.WriteFault why = absurd why
     meets status.NoMemory why = inr refl
+
+-- an event that is not enabled explains that there is no output, and nothing else does but want of memory
+pub stopped-explained : (input bytes : List ℕ) (i : ℕ) (s : Status) → bytes ≡ input → IsNotEnabled input i → Explains bytes s → (s ≡ status.NotEnabled i) ⊎ (s ≡ status.NoMemory)
+stopped-explained input bytes i s same stops why = meets s (subst (λ (x : List ℕ). Explains x s) same why)
+  where
+    meets : (s : Status) → Explains input s → (s ≡ status.NotEnabled i) ⊎ (s ≡ status.NoMemory)
+    meets status.Ok why = absurd why
+    meets status.Usage why = absurd why
+    meets (status.BadDocument NotBuilt) why = absurd (refused-is input i stops why)
+    meets (status.BadDocument NoMemory) why = absurd why
+    meets (status.NotEnabled k) why = inl (ap (λ (n : ℕ). status.NotEnabled n) (one-refusal input i k stops why))
+    meets status.ReadFault why = absurd why
+    meets status.WriteFault why = absurd why
+    meets status.NoMemory why = inr refl
+
+-- such a document has no output
+pub stopped-writes-nothing : (input bytes text : List ℕ) (i : ℕ) → bytes ≡ input → IsNotEnabled input i → IsOutput bytes text → ⊥
+stopped-writes-nothing input bytes text i same stops out = runs-or-stops input i (text, subst (λ (x : List ℕ). IsOutput x text) same out) stops
+
+-- one byte more than a document may have
+pub took-one-more : (taken : ℕ) (before after : Option (List ℕ)) → taken ≡ most_bytes + 1 → TakesFirst taken before after → TakesFirst (most_bytes + 1) before after
+took-one-more taken before after e takes = subst (λ (n : ℕ). TakesFirst n before after) e takes

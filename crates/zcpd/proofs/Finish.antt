@@ -82,6 +82,12 @@ get-last [] y v (suc i) le e = cc
 get-last (x ∷ xs) y v zero le e = absurd (omega arith)
 get-last (x ∷ xs) y v (suc i) le e = let more = get-last xs y v i (omega arith) e in (ap suc more.0, more.1)
 
+cases_lt : (a b : ℕ) → (a < b) ⊎ (b ≤ a)
+cases_lt zero zero = inr (omega arith)
+cases_lt zero (suc b) = inl (omega arith)
+cases_lt (suc a) zero = inr (omega arith)
+cases_lt (suc a) (suc b) = elim (cases_lt a b) [ inl lt ↦ inl (omega arith) | inr le ↦ inr (omega arith) ]
+
 enabled-at : (o : Origin Tree Call Reply) (calls : ℕ → ℕ → Option Call) (h : List (Entry Call)) (i : ℕ) (v : Event) → Legal o h → CarriesCalls o calls h → slice_get (journal_of h) i ≡ Some v → EnabledAt o calls (journal_of h) i v
 enabled-at o calls [] i v l carries e = cc
 enabled-at o calls (x ∷ h) i v l carries e = elim (cases_lt i (length (journal_of h))) [
@@ -95,12 +101,6 @@ enabled-at o calls (x ∷ h) i v l carries e = elim (cases_lt i (length (journal
       })
 ]
   where
-    cases_lt : (a b : ℕ) → (a < b) ⊎ (b ≤ a)
-    cases_lt zero zero = inr (omega arith)
-    cases_lt zero (suc b) = inl (omega arith)
-    cases_lt (suc a) zero = inr (omega arith)
-    cases_lt (suc a) (suc b) = elim (cases_lt a b) [ inl lt ↦ inl (omega arith) | inr le ↦ inr (omega arith) ]
-
     take-whole : (xs : List Event) (y : Event) (i : ℕ) → i ≡ length xs → take i (xs ++ y ∷ []) ≡ xs
     take-whole xs y i e = grind (arith, common_steps)
 
@@ -124,3 +124,48 @@ runs-or-stops bytes i out stops = go out.1.document stops.document out.1.is stop
 -- a document is no other
 pub is-or-not : (bytes : List ℕ) → HasOutput bytes → document_of bytes ≡ None → ⊥
 is-or-not bytes out none = let gone : None ≡ Some out.1.document = sym none ∙ out.1.is in cc
+
+-- ---- one event at most is the first that isn't enabled
+
+get-taken : (xs : List Event) (i n : ℕ) → i < n → slice_get (take n xs) i ≡ slice_get xs i
+get-taken xs i zero lt = absurd (omega arith)
+get-taken [] i (suc n) lt = refl
+get-taken (x ∷ xs) zero (suc n) lt = refl
+get-taken (x ∷ xs) (suc i) (suc n) lt = get-taken xs i n (omega arith)
+
+take-taken : (xs : List Event) (i k : ℕ) → i ≤ k → take i (take k xs) ≡ take i xs
+take-taken [] zero zero le = refl
+take-taken [] zero (suc k) le = refl
+take-taken [] (suc i) zero le = absurd (omega arith)
+take-taken [] (suc i) (suc k) le = refl
+take-taken (x ∷ xs) zero zero le = refl
+take-taken (x ∷ xs) zero (suc k) le = refl
+take-taken (x ∷ xs) (suc i) zero le = absurd (omega arith)
+take-taken (x ∷ xs) (suc i) (suc k) le = ap (λ (ys : List Event). x ∷ ys) (take-taken xs i k (omega arith))
+
+not-before : (o : Origin Tree Call Reply) (sessions : List (List Call)) (schedule : List Event) (i k : ℕ) → StopsAt o sessions schedule i → StopsAt o sessions schedule k → i < k → ⊥
+not-before o sessions schedule i k a b lt =
+    let at = enabled-at o (call_in sessions) b.history i a.event b.legal b.before.carries (ap (λ (es : List Event). slice_get es i) b.before.journal ∙ get-taken schedule i k lt ∙ a.there) in
+    let before : IsHistoryOf o (call_in sessions) (take i schedule) at.history = subst (λ (es : List Event). IsHistoryOf o (call_in sessions) es at.history) (ap (λ (es : List Event). take i es) b.before.journal ∙ take-taken schedule i k (omega arith)) at.before in
+    let same = one-history o (call_in sessions) (take i schedule) at.history a.history before a.before in
+    a.refused (subst (λ (g : List (Entry Call)). MayFollow o (call_in sessions) g a.event) same at.may)
+
+one-stop : (o : Origin Tree Call Reply) (sessions : List (List Call)) (schedule : List Event) (i k : ℕ) → StopsAt o sessions schedule i → StopsAt o sessions schedule k → k ≡ i
+one-stop o sessions schedule i k a b = elim (cases_lt i k) [
+  | inl lt ↦ absurd (not-before o sessions schedule i k a b lt)
+  | inr le ↦ elim (cases_lt k i) [
+    | inl lt ↦ absurd (not-before o sessions schedule k i b a lt)
+    | inr ge ↦ omega arith
+  ]
+]
+
+-- the bytes are refused for one event
+pub one-refusal : (bytes : List ℕ) (i k : ℕ) → IsNotEnabled bytes i → IsNotEnabled bytes k → k ≡ i
+one-refusal bytes i k a b =
+    let both : Some a.document ≡ Some b.document = sym a.is ∙ b.is in
+    let is : b.document ≡ a.document = cc in
+    one-stop (origin_of a.document) a.document.sessions a.document.schedule i k a.stops (subst (λ (d : Document). StopsAt (origin_of d) d.sessions d.schedule k) is b.stops)
+
+-- a document that is refused for an event is one
+pub refused-is : (bytes : List ℕ) (i : ℕ) → IsNotEnabled bytes i → document_of bytes ≡ None → ⊥
+refused-is bytes i stops none = let gone : None ≡ Some stops.document = sym none ∙ stops.is in cc

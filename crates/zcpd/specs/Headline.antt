@@ -1,6 +1,7 @@
 -- What a run of a document is, and what is written for it.
-use Rattle.std.specs.Prelude.{◌≡◌, ◌<◌, ℕ, List, length, map, take, Option, Some, None}
-use Rattle.std.specs.Io.KnownBytes.{Appends}
+use Rattle.std.specs.Prelude.{◌≡◌, ◌<◌, ◌+◌, ◌⊎◌, ℕ, List, length, map, take, Option, Some, None}
+use Rattle.std.specs.Io.KnownBytes.{Appends, IsAtEnd}
+use Rattle.zc_io.specs.Reading.{TakesFirst}
 use Rattle.zp_tree.specs.Tree.{Tree}
 use Rattle.zp_tree.specs.Create.{opening}
 use Rattle.zp_calls.specs.declared.call.Call.{Call}
@@ -16,7 +17,7 @@ use Rattle.txg_core.specs.declared.event.Event.{Event}
 use Rattle.zcpd.specs.declared.document.Document.{Document}
 use Rattle.zcpd.specs.Pool.{pool_rules}
 use Rattle.zcpd.specs.Replay.{call_in, all_given, StopsAt}
-use Rattle.zcpd.specs.Document.{document_of}
+use Rattle.zcpd.specs.Document.{document_of, most_bytes}
 use Rattle.zcpd.specs.declared.document.error.DocError.{DocError}
 use Rattle.zcpd.specs.declared.document.error.DocError.TheVariants.{NotBuilt, NoMemory}
 use Rattle.zcpd.specs.declared.status.Status.{Status}
@@ -79,3 +80,11 @@ pub record WritesFront (before after : Option (List ℕ)) (input : List ℕ) : T
   pub count : ℕ
   pub short : count < length text
   pub written : Appends before after (take count text)
+
+-- what a run that ended so has read: all, or one byte more than a document may have
+abbrev pub HasRead : Status → Option (List ℕ) → Option (List ℕ) → Type 0
+HasRead status.Ok before after = IsAtEnd after
+HasRead status.WriteFault before after = IsAtEnd after
+HasRead (status.NotEnabled i) before after = IsAtEnd after
+HasRead (status.BadDocument e) before after = IsAtEnd after ⊎ TakesFirst (most_bytes + 1) before after
+HasRead _ before after = Unit {0}

@@ -11,31 +11,38 @@ mod status;
 pub use offline::offline;
 pub use status::Status;
 use std::alloc::Global;
-use std::env;
 use std::process::ExitCode;
+use std::{env, io};
 use zc_io::{NoMemory, StdSink, StdSource};
 
 #[cfg(test)]
 mod tests;
 
-/// The words after the program's name; none where they are no text or there is no memory for them.
-fn words_of(rt: &HostRuntime, alloc: Global) -> Option<Vec<String>> {
+/// The words after the program's name. Words that are no text are none that the program knows.
+fn words_of(rt: &HostRuntime, alloc: Global) -> Result<Vec<String>, Status> {
     let mut words = Vec::new(alloc);
-    for word in env::args(rt).ok()?.skip(1) {
-        words.push(word).ok()?;
+    for word in env::args(rt).map_err(status_of)?.skip(1) {
+        words.push(word).map_err(|_| Status::NoMemory)?;
     }
-    Some(words)
+    Ok(words)
+}
+
+fn status_of(error: io::Error) -> Status {
+    match error.kind() {
+        io::ErrorKind::OutOfMemory => Status::NoMemory,
+        _ => Status::Usage,
+    }
 }
 
 fn main(rt: HostRuntime) -> ExitCode {
     let alloc = rt.alloc();
     let status = match words_of(&rt, alloc) {
-        Some(words) => {
+        Ok(words) => {
             let mut source = StdSource::new(rt.stdin());
             let mut sink = StdSink::new(rt.stdout());
             offline(alloc, words.as_slice(), &mut source, &mut sink)
         }
-        None => Status::Usage,
+        Err(status) => status,
     };
     if status != Status::Ok {
         let _ = eprintln!(rt; "{status}");

@@ -1,12 +1,13 @@
 //! The top call.
 
-ghost use Rattle.std.specs.Prelude.{◌≡◌, ◌≢◌, ◌≤◌, ◌↔◌, ◌⊎◌, ℕ, List, true, false, length, Some, IfSome, MatchResult, string_bytes};
+ghost use Rattle.std.specs.Prelude.{◌≡◌, ◌≢◌, ◌≤◌, ◌↔◌, ◌⊎◌, ℕ, List, true, false, length, Some, None, IfSome, MatchResult, string_bytes};
 ghost use Rattle.std.specs.Io.KnownBytes.{Keeps};
 ghost use Rattle.zc_io.specs.Causes.{Rose};
 ghost use Rattle.zcpd.specs.Words.{asks_replay};
-ghost use Rattle.zcpd.specs.Document.{most_bytes};
-ghost use Rattle.zcpd.specs.Headline.{IsOutput, IsNotDocument, IsNotEnabled, HasOutput, Explains, Writes, WritesFront};
+ghost use Rattle.zcpd.specs.Document.{most_bytes, document_of};
+ghost use Rattle.zcpd.specs.Headline.{IsOutput, IsNotDocument, IsNotEnabled, HasOutput, HasRead, Explains, Writes, WritesFront};
 ghost use Rattle.zcpd.specs.declared.document.error.DocError.{DocError as DocErrorOf};
+ghost use Rattle.zcpd.specs.declared.document.error.DocError.TheVariants as doc_error;
 
 use crate::Status;
 use crate::document::{DocError, MOST_BYTES, read_document};
@@ -85,6 +86,15 @@ pub fn offline<S: Source, K: Sink>(
     // The document, or the event of its schedule, that is refused.
     ensures document { (e : DocErrorOf) → result ≡ Status.BadDocument e → IfSome (S.left source.old) (λ input. IsNotDocument input e) }
     ensures event { (i : ℕ) → result ≡ Status.NotEnabled i → IfSome (S.left source.old) (λ input. IsNotEnabled input i) }
+
+    // Both come for sure where their cause is there, but for want of memory.
+    ensures refused { (input : List ℕ) → asks_replay words.now ≡ true → S.left source.old ≡ Some input → document_of input ≡ None →
+        ¬ Rose (S.faults source.old) (S.faults source.new) → (result ≡ Status.BadDocument doc_error.NotBuilt) ⊎ (result ≡ Status.NoMemory) }
+    ensures stopped { (input : List ℕ) (i : ℕ) → asks_replay words.now ≡ true → S.left source.old ≡ Some input → IsNotEnabled input i →
+        ¬ Rose (S.faults source.old) (S.faults source.new) → (result ≡ Status.NotEnabled i) ⊎ (result ≡ Status.NoMemory) }
+
+    // The whole input is read before it is judged; of one that is too long the first bytes.
+    ensures ended { HasRead result (S.left source.old) (S.left source.new) }
 
     // A fault comes only from the source or the sink.
     ensures read { result ≡ Status.ReadFault → Rose (S.faults source.old) (S.faults source.new) }

@@ -136,3 +136,26 @@ fn tells_faults(rt: HostRuntime) -> Result<(), Fail> {
     assert!(rt; written.len() == 14 && output.starts_with(written.as_slice()));
     Ok(())
 }
+
+#[test]
+fn fault_lines(rt: HostRuntime) -> Result<(), Fail> {
+    let alloc = rt.alloc();
+    for (status, line) in [
+        (
+            Status::Usage,
+            "usage: zcpd run, replay, check, gen SEED N, or program [-jn] [-t N] [-m N] POOL SCRIPT [ARG...]",
+        ),
+        (
+            Status::BadDocument(DocError::NotBuilt),
+            "bad document: NotBuilt",
+        ),
+        (Status::NotEnabled(7), "event 7 is not enabled"),
+        (Status::ReadFault, "cannot read the input"),
+        (Status::WriteFault, "cannot write the output"),
+        (Status::NoMemory, "out of memory"),
+    ] {
+        let text = status.to_string(alloc)?;
+        assert_eq!(rt; text.as_str(), line);
+    }
+    Ok(())
+}

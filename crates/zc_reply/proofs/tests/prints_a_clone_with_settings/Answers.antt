@@ -1,0 +1,7 @@
+use Rattle.std.proofs.Common.{refl}
+use Rattle.zp_names.specs.Names.{is_valid_short}
+use Rattle.zc_reply.proofs.tests.prints_a_clone_with_settings.Goals as goal
+
+pub full_name-requires : goal.full_name-requires
+unfolding is_valid_short
+full_name-requires c = λ d. refl
