@@ -193,11 +193,11 @@ Each-both P Q [] a b = tt
 Each-both P Q (x ∷ xs) a b = ((a.0, b.0), Each-both P Q xs a.1 b.1)
 
 -- where nobody in the list is s, nothing is taken out
-filter-none : (s : ℕ) (xs : List ℕ) → Each (λ x. nat_eq s x ≡ false) xs → filter (is_other s) xs ≡ xs
+pub filter-none : (s : ℕ) (xs : List ℕ) → Each (λ x. nat_eq s x ≡ false) xs → filter (is_other s) xs ≡ xs
 filter-none s [] e = refl
 filter-none s (x ∷ xs) e = let ne : nat_eq x s ≡ false = eqb-swap s x e.0 in simp ne (ap (λ ys. x ∷ ys) (filter-none s xs e.1))
 
-filter-first : (s : ℕ) (xs : List ℕ) → filter (is_other s) (s ∷ xs) ≡ filter (is_other s) xs
+pub filter-first : (s : ℕ) (xs : List ℕ) → filter (is_other s) (s ∷ xs) ≡ filter (is_other s) xs
 filter-first s xs = rw (eq-eqb s s refl)
 
 -- a sync leaves the queues of the groups that its session did not join

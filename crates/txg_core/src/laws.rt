@@ -2,14 +2,14 @@
 ghost use Rattle.std.specs.Prelude.{◌≡◌, ◌↔◌, ◌≤◌, ℕ, Option, Some, List, [], ◌∷◌, ◌++◌, ◌+◌, Contains, length, nat_eq};
 ghost use Rattle.std.specs.List.{IsDistinct};
 ghost use Rattle.txg_core.specs.Rules.{Origin, IsLawful};
-ghost use Rattle.txg_core.specs.History.{joined};
+ghost use Rattle.txg_core.specs.History.{joined, begun, enqueues, syncs};
 ghost use Rattle.txg_core.specs.Serial.{serial, next, replies_of, given};
 ghost use Rattle.txg_core.specs.Sessions.{phase, waiting};
 ghost use Rattle.txg_core.specs.Waiting.{waiting_in};
-ghost use Rattle.txg_core.specs.Enabled.{Legal};
+ghost use Rattle.txg_core.specs.Enabled.{Enabled, Legal};
 ghost use Rattle.txg_core.specs.Calls.{CarriesCalls, IsHistoryOf, entry_of};
 ghost use Rattle.txg_core.specs.declared.event.Event.{Event as EventOf};
-ghost use Rattle.txg_core.specs.Laws.{DecidesCallsInOrder, IsBusyWith, NoneBy, IsLeftAlone, kept_of, replies_told};
+ghost use Rattle.txg_core.specs.Laws.{DecidesCallsInOrder, IsBusyWith, IsElsewhere, NoneBy, IsLeftAlone, kept_of, replies_told};
 ghost use Rattle.txg_core.specs.Stands.{room_for};
 
 use crate::{Entry, Stated};
@@ -45,12 +45,22 @@ pub fn history_of_events<O: Stated>()
         IsHistoryOf o calls (events ++ event ∷ []) (e ∷ h) }
 {}
 
-/// The waiting list of a group has the sessions that wait in it, each once.
+/// The waiting list of a group has the sessions that wait in it, each once, in the order in which
+/// they enqueued: an enqueue puts its session last into the list of its group, a sync takes the
+/// first out of that of the syncing group, and no other list changes, nor by any other entry.
 pub fn waiting_list<O: Stated>()
     ensures waits { (o : Origin O.World O.Call O.Reply) (h : List (Entry O.Call)) (group s : ℕ) →
         Contains (waiting_in o h group) s ↔ (((c : O.Call) × (phase o h s ≡ waiting c)) × (joined h s ≡ group)) }
     ensures once { (o : Origin O.World O.Call O.Reply) (h : List (Entry O.Call)) (group : ℕ) →
         IsDistinct nat_eq (waiting_in o h group) }
+    ensures joins { (o : Origin O.World O.Call O.Reply) (h : List (Entry O.Call)) (s : ℕ) (c : O.Call) →
+        Enabled o h (enqueues s c) →
+        waiting_in o (enqueues s c ∷ h) (joined h s) ≡ waiting_in o h (joined h s) ++ s ∷ [] }
+    ensures leaves { (o : Origin O.World O.Call O.Reply) (h : List (Entry O.Call)) (s : ℕ) (c : O.Call) →
+        Enabled o h (syncs s c) →
+        waiting_in o h (begun h) ≡ s ∷ waiting_in o (syncs s c ∷ h) (begun h) }
+    ensures stays { (o : Origin O.World O.Call O.Reply) (h : List (Entry O.Call)) (e : Entry O.Call) (group : ℕ) →
+        Enabled o h e → IsElsewhere h e group → waiting_in o (e ∷ h) group ≡ waiting_in o h group }
 {}
 
 /// The replies to a session's decided calls are those that it was given, and the one that is

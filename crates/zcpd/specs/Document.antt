@@ -66,7 +66,7 @@ event_at sessions d = as_array d >>= event_of sessions
 -- ---- the document
 
 abbrev pub most_sessions : ℕ
-most_sessions = 1
+most_sessions = 16
 
 abbrev pub most_calls : ℕ
 most_calls = 1000

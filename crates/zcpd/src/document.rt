@@ -24,7 +24,7 @@ use zp_names::{Name, Sequence};
 /// The greatest number of bytes of a document.
 pub const MOST_BYTES: u64 = 16_777_216;
 
-const MOST_SESSIONS: usize = 1;
+const MOST_SESSIONS: usize = 16;
 
 const MOST_CALLS: usize = 1_000;
 

@@ -1,7 +1,5 @@
 //! Runs of the whole program, on documents that were worked out by hand.
 
-ghost use Rattle.std.specs.Prelude.{◌≤◌};
-
 use super::*;
 use crate::document::DocError;
 use std::test::Fail;
@@ -10,31 +8,89 @@ use zc_io::{MemSink, MemSource, SureSink, SureSource};
 const ROOM: usize = 4096;
 
 const EMPTY: &str =
-    "{\"pool\":\"rpool\",\"now\":0,\"setup\":[],\"programs\":{},\"sessions\":[],\"schedule\":[]}";
+    r#"{"pool":"rpool","now":0,"setup":[],"programs":{},"sessions":[],"schedule":[]}"#;
 
 const EMPTY_OUTPUT: &str =
-    "{\"journal\":[],\"replies\":[],\"synced\":0,\"tree\":[{\"createtxg\":0,\"id\":1,\"kind\":\"filesystem\",\"mounted\":false,\"name\":\"rpool\",\"origin\":null,\"settings\":{},\"stamp\":0}]}\n";
+    r#"{"journal":[],"replies":[],"synced":0,"tree":[{"createtxg":0,"id":1,"kind":"filesystem","mounted":false,"name":"rpool","origin":null,"settings":{},"stamp":0}]}
+"#;
 
 const CREATE: &str =
-    "{\"pool\":\"rpool\",\"now\":0,\"setup\":[],\"programs\":{},\"sessions\":[[{\"name\":\"rpool/a\",\"op\":\"create\"}]],\"schedule\":[[\"hold\",0],[\"check\",0],[\"enqueue\",0],[\"quiesce\"],[\"begin\"],[\"sync\",0],[\"end\"],[\"take\",0]]}";
+    r#"{"pool":"rpool","now":0,"setup":[],"programs":{},"sessions":[[{"name":"rpool/a","op":"create"}]],"schedule":[["hold",0],["check",0],["enqueue",0],["quiesce"],["begin"],["sync",0],["end"],["take",0]]}"#;
 
 const CREATE_OUTPUT: &str =
-    "{\"journal\":[[\"hold\",0],[\"check\",0],[\"enqueue\",0],[\"quiesce\"],[\"begin\"],[\"sync\",0],[\"end\"],[\"take\",0]],\"replies\":[[{\"errno\":0}]],\"synced\":1,\"tree\":[{\"createtxg\":0,\"id\":1,\"kind\":\"filesystem\",\"mounted\":false,\"name\":\"rpool\",\"origin\":null,\"settings\":{},\"stamp\":0},{\"createtxg\":1,\"id\":2,\"kind\":\"filesystem\",\"mounted\":false,\"name\":\"rpool/a\",\"origin\":null,\"settings\":{},\"stamp\":0}]}\n";
+    r#"{"journal":[["hold",0],["check",0],["enqueue",0],["quiesce"],["begin"],["sync",0],["end"],["take",0]],"replies":[[{"errno":0}]],"synced":1,"tree":[{"createtxg":0,"id":1,"kind":"filesystem","mounted":false,"name":"rpool","origin":null,"settings":{},"stamp":0},{"createtxg":1,"id":2,"kind":"filesystem","mounted":false,"name":"rpool/a","origin":null,"settings":{},"stamp":0}]}
+"#;
 
 /// The open check refuses: there is no parent.
 const NO_PARENT: &str =
-    "{\"pool\":\"rpool\",\"now\":0,\"setup\":[],\"programs\":{},\"sessions\":[[{\"name\":\"rpool/a/b\",\"op\":\"create\"}]],\"schedule\":[[\"hold\",0],[\"check\",0]]}";
+    r#"{"pool":"rpool","now":0,"setup":[],"programs":{},"sessions":[[{"name":"rpool/a/b","op":"create"}]],"schedule":[["hold",0],["check",0]]}"#;
 
 const NO_PARENT_OUTPUT: &str =
-    "{\"journal\":[[\"hold\",0],[\"check\",0]],\"replies\":[[{\"errno\":2}]],\"synced\":0,\"tree\":[{\"createtxg\":0,\"id\":1,\"kind\":\"filesystem\",\"mounted\":false,\"name\":\"rpool\",\"origin\":null,\"settings\":{},\"stamp\":0}]}\n";
+    r#"{"journal":[["hold",0],["check",0]],"replies":[[{"errno":2}]],"synced":0,"tree":[{"createtxg":0,"id":1,"kind":"filesystem","mounted":false,"name":"rpool","origin":null,"settings":{},"stamp":0}]}
+"#;
+
+/// Two sessions create the same dataset in one group: both open checks pass, and the second check
+/// of the later one finds what the earlier one made.
+const RACE: [&str; 13] = [
+    r#"["hold",0]"#,
+    r#"["check",0]"#,
+    r#"["enqueue",0]"#,
+    r#"["hold",1]"#,
+    r#"["check",1]"#,
+    r#"["enqueue",1]"#,
+    r#"["quiesce"]"#,
+    r#"["begin"]"#,
+    r#"["sync",0]"#,
+    r#"["sync",1]"#,
+    r#"["end"]"#,
+    r#"["take",0]"#,
+    r#"["take",1]"#,
+];
+
+const RACE_OUTPUT: &str =
+    r#"{"journal":[["hold",0],["check",0],["enqueue",0],["hold",1],["check",1],["enqueue",1],["quiesce"],["begin"],["sync",0],["sync",1],["end"],["take",0],["take",1]],"replies":[[{"errno":0}],[{"errno":17}]],"synced":1,"tree":[{"createtxg":0,"id":1,"kind":"filesystem","mounted":false,"name":"rpool","origin":null,"settings":{},"stamp":0},{"createtxg":1,"id":2,"kind":"filesystem","mounted":false,"name":"rpool/a","origin":null,"settings":{},"stamp":0}]}
+"#;
+
+/// The second session holds in the second group while the first group is not yet synced.
+const TWO_GROUPS: &str =
+    r#"{"pool":"rpool","now":0,"setup":[],"programs":{},"sessions":[[{"name":"rpool/a","op":"create"}],[{"name":"rpool/b","op":"create"}]],"schedule":[["hold",0],["check",0],["enqueue",0],["quiesce"],["hold",1],["check",1],["enqueue",1],["begin"],["sync",0],["quiesce"],["end"],["begin"],["sync",1],["take",0],["end"],["take",1]]}"#;
+
+const TWO_GROUPS_OUTPUT: &str =
+    r#"{"journal":[["hold",0],["check",0],["enqueue",0],["quiesce"],["hold",1],["check",1],["enqueue",1],["begin"],["sync",0],["quiesce"],["end"],["begin"],["sync",1],["take",0],["end"],["take",1]],"replies":[[{"errno":0}],[{"errno":0}]],"synced":2,"tree":[{"createtxg":0,"id":1,"kind":"filesystem","mounted":false,"name":"rpool","origin":null,"settings":{},"stamp":0},{"createtxg":1,"id":2,"kind":"filesystem","mounted":false,"name":"rpool/a","origin":null,"settings":{},"stamp":0},{"createtxg":2,"id":3,"kind":"filesystem","mounted":false,"name":"rpool/b","origin":null,"settings":{},"stamp":0}]}
+"#;
+
+/// The second group may not begin while the first one syncs.
+const BEGINS_TWICE: &str =
+    r#"{"pool":"rpool","now":0,"setup":[],"programs":{},"sessions":[[{"name":"rpool/a","op":"create"}],[{"name":"rpool/b","op":"create"}]],"schedule":[["hold",0],["check",0],["enqueue",0],["quiesce"],["hold",1],["check",1],["enqueue",1],["begin"],["sync",0],["quiesce"],["begin"]]}"#;
+
+/// The second session still holds in the group that should begin.
+const HOLDS_IN_GROUP: &str =
+    r#"{"pool":"rpool","now":0,"setup":[],"programs":{},"sessions":[[{"name":"rpool/a","op":"create"}],[{"name":"rpool/a","op":"create"}]],"schedule":[["hold",0],["check",0],["enqueue",0],["hold",1],["quiesce"],["begin"]]}"#;
+
+/// The second session enqueued first, so the first session's task has to wait for it.
+const OUT_OF_TURN: &str =
+    r#"{"pool":"rpool","now":0,"setup":[],"programs":{},"sessions":[[{"name":"rpool/a","op":"create"}],[{"name":"rpool/b","op":"create"}]],"schedule":[["hold",0],["check",0],["hold",1],["check",1],["enqueue",1],["enqueue",0],["quiesce"],["begin"],["sync",0]]}"#;
+
+/// The session of the event isn't below the number of sessions.
+const NO_SUCH_SESSION: &str =
+    r#"{"pool":"rpool","now":0,"setup":[],"programs":{},"sessions":[[],[]],"schedule":[["hold",2]]}"#;
+
+const SIXTEEN: &str =
+    r#"{"pool":"rpool","now":0,"setup":[],"programs":{},"sessions":[[],[],[],[],[],[],[],[],[],[],[],[],[],[],[],[{"name":"rpool","op":"exists"}]],"schedule":[["read",15]]}"#;
+
+const SIXTEEN_OUTPUT: &str =
+    r#"{"journal":[["read",15]],"replies":[[],[],[],[],[],[],[],[],[],[],[],[],[],[],[],[{"errno":0,"exists":true}]],"synced":0,"tree":[{"createtxg":0,"id":1,"kind":"filesystem","mounted":false,"name":"rpool","origin":null,"settings":{},"stamp":0}]}
+"#;
+
+const SEVENTEEN: &str =
+    r#"{"pool":"rpool","now":0,"setup":[],"programs":{},"sessions":[[],[],[],[],[],[],[],[],[],[],[],[],[],[],[],[],[]],"schedule":[]}"#;
 
 /// The reply is asked for before its group is synced.
 const EARLY: &str =
-    "{\"pool\":\"rpool\",\"now\":0,\"setup\":[],\"programs\":{},\"sessions\":[[{\"name\":\"rpool/a\",\"op\":\"create\"}]],\"schedule\":[[\"hold\",0],[\"check\",0],[\"enqueue\",0],[\"take\",0]]}";
+    r#"{"pool":"rpool","now":0,"setup":[],"programs":{},"sessions":[[{"name":"rpool/a","op":"create"}]],"schedule":[["hold",0],["check",0],["enqueue",0],["take",0]]}"#;
 
 /// No member `now`.
-const NO_TIME: &str =
-    "{\"pool\":\"rpool\",\"setup\":[],\"programs\":{},\"sessions\":[],\"schedule\":[]}";
+const NO_TIME: &str = r#"{"pool":"rpool","setup":[],"programs":{},"sessions":[],"schedule":[]}"#;
 
 fn words(alloc: Global, words: &[&str]) -> Result<Vec<String>, Fail> {
     let mut owned = Vec::new(alloc);
@@ -60,10 +116,32 @@ fn replays(rt: HostRuntime) -> Result<(), Fail> {
         (EMPTY, EMPTY_OUTPUT),
         (CREATE, CREATE_OUTPUT),
         (NO_PARENT, NO_PARENT_OUTPUT),
+        (TWO_GROUPS, TWO_GROUPS_OUTPUT),
+        (SIXTEEN, SIXTEEN_OUTPUT),
     ] {
         let (status, written) = replay(alloc, document)?;
         assert_eq!(rt; status, Status::Ok);
         assert!(rt; written.as_slice() == output.as_bytes(), "{document}");
+    }
+    Ok(())
+}
+
+/// Each first part of the schedule is done, and is the journal.
+#[test]
+fn stops_anywhere(rt: HostRuntime) -> Result<(), Fail> {
+    let alloc = rt.alloc();
+    for done in 0..RACE.len() + 1 {
+        let schedule = RACE[..done].join(alloc, ",")?;
+        let document = format!(in alloc;
+            r#"{{"pool":"rpool","now":0,"setup":[],"programs":{{}},"sessions":[[{{"name":"rpool/a","op":"create"}}],[{{"name":"rpool/a","op":"create"}}]],"schedule":[{schedule}]}}"#
+        )?;
+        let journal = format!(in alloc; r#"{{"journal":[{schedule}],"replies":"#)?;
+        let (status, written) = replay(alloc, document.as_str())?;
+        assert_eq!(rt; status, Status::Ok);
+        assert!(rt; written.starts_with(journal.as_bytes()), "{document}");
+        if done == RACE.len() {
+            assert!(rt; written.as_slice() == RACE_OUTPUT.as_bytes());
+        }
     }
     Ok(())
 }
@@ -73,6 +151,11 @@ fn refuses(rt: HostRuntime) -> Result<(), Fail> {
     let alloc = rt.alloc();
     for (document, wanted) in [
         (EARLY, Status::NotEnabled(3)),
+        (HOLDS_IN_GROUP, Status::NotEnabled(5)),
+        (OUT_OF_TURN, Status::NotEnabled(8)),
+        (BEGINS_TWICE, Status::NotEnabled(10)),
+        (NO_SUCH_SESSION, Status::BadDocument(DocError::NotBuilt)),
+        (SEVENTEEN, Status::BadDocument(DocError::NotBuilt)),
         (NO_TIME, Status::BadDocument(DocError::NotBuilt)),
         ("", Status::BadDocument(DocError::NotBuilt)),
     ] {
@@ -99,41 +182,57 @@ fn knows_one_word(rt: HostRuntime) -> Result<(), Fail> {
     Ok(())
 }
 
-/// How a replay of the empty document ends where these calls of its source and sink fail, and what
-/// it wrote.
+/// How a replay of the document ends where these calls of its source and sink fail, each moving
+/// ten bytes, and what it wrote.
 fn faulty(
     alloc: Global,
-    chunk: usize,
+    document: &str,
     reads: &[u64],
     writes: &[u64],
-) -> Result<(Status, Vec<u8>), Fail>
-    requires { 1 ≤ chunk }
-{
+) -> Result<(Status, Vec<u8>), Fail> {
     let words = words(alloc, &["replay"])?;
-    let document = EMPTY.as_bytes().to_vec(alloc)?;
-    let mut source = MemSource::new(document, chunk, reads.to_vec(alloc)?);
-    let mut sink = MemSink::new(alloc, chunk, writes.to_vec(alloc)?, ROOM)?;
+    let document = document.as_bytes().to_vec(alloc)?;
+    let mut source = MemSource::new(document, 10, reads.to_vec(alloc)?);
+    let mut sink = MemSink::new(alloc, 10, writes.to_vec(alloc)?, ROOM)?;
     let status = offline(alloc, words.as_slice(), &mut source, &mut sink);
     Ok((status, sink.bytes().to_vec(alloc)?))
 }
 
+/// Each read fails in turn, also the one that would have found the end.
 #[test]
-fn tells_faults(rt: HostRuntime) -> Result<(), Fail> {
+fn tells_failing_reads(rt: HostRuntime) -> Result<(), Fail> {
     let alloc = rt.alloc();
-    let output = EMPTY_OUTPUT.as_bytes();
+    for document in [EMPTY, CREATE] {
+        let reads = document.len() as u64 / 10 + 2;
+        for read in 1..reads {
+            let (status, written) = faulty(alloc, document, &[read], &[])?;
+            assert_eq!(rt; status, Status::ReadFault);
+            assert!(rt; written.is_empty());
+        }
+        let (status, _) = faulty(alloc, document, &[reads + 1], &[])?;
+        assert_eq!(rt; status, Status::Ok);
+    }
+    Ok(())
+}
 
-    let (status, written) = faulty(alloc, 7, &[], &[])?;
-    assert_eq!(rt; status, Status::Ok);
-    assert!(rt; written.as_slice() == output);
-
-    let (status, written) = faulty(alloc, 7, &[2], &[])?;
-    assert_eq!(rt; status, Status::ReadFault);
-    assert!(rt; written.is_empty());
-
-    // Two writes of seven bytes went well.
-    let (status, written) = faulty(alloc, 7, &[], &[3])?;
-    assert_eq!(rt; status, Status::WriteFault);
-    assert!(rt; written.len() == 14 && output.starts_with(written.as_slice()));
+/// Each write fails in turn: what the writes before it took was written.
+#[test]
+fn tells_failing_writes(rt: HostRuntime) -> Result<(), Fail> {
+    let alloc = rt.alloc();
+    for (document, output) in [(EMPTY, EMPTY_OUTPUT), (CREATE, CREATE_OUTPUT)] {
+        let output = output.as_bytes();
+        let mut whole = 0;
+        for write in output.chunks(10) {
+            let number = whole as u64 / 10 + 1;
+            let (status, written) = faulty(alloc, document, &[], &[number])?;
+            assert_eq!(rt; status, Status::WriteFault);
+            assert!(rt; written.len() == whole && output.starts_with(written.as_slice()));
+            whole += write.len();
+        }
+        let (status, written) = faulty(alloc, document, &[], &[whole as u64])?;
+        assert_eq!(rt; status, Status::Ok);
+        assert!(rt; written.as_slice() == output);
+    }
     Ok(())
 }
 
