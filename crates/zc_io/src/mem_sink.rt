@@ -1,3 +1,5 @@
+//! A sink in memory that takes chunks, and fails at given calls or when it is full.
+
 ghost use Rattle.std.specs.Prelude.{◌≡◌, ℕ, List, [], ◌-◌, ◌<◌, ◌≤◌, ◌↔◌, ◌⊎◌, length, min, Some, IfOk, IsErr, Contains};
 ghost use Rattle.std.specs.Io.{WritesAtMost};
 ghost use Rattle.std.specs.Io.KnownBytes.{WriteAppends};

@@ -1,3 +1,5 @@
+//! Calls.
+
 ghost use Rattle.std.specs.Prelude.{◌≡◌, IfOk};
 
 use std::alloc::Global;

@@ -1,3 +1,5 @@
+//! Replies.
+
 use zp_names::Verdict;
 
 /// What a session is told of its call.

@@ -1,3 +1,5 @@
+//! Copies succeed where there is memory.
+
 use super::*;
 use std::test::Fail;
 use zp_names::{Command, Name, Query};

@@ -1,3 +1,5 @@
+//! Why a text is no name.
+
 use std::alloc::AllocError;
 use zc_io::NoMemory;
 

@@ -1,3 +1,5 @@
+//! What administrators ask for: changes and questions.
+
 ghost use Rattle.std.specs.Prelude.{◌≡◌, IfOk};
 
 use crate::Name;

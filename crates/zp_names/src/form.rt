@@ -1,3 +1,5 @@
+//! What kind of thing a name names.
+
 /// What a name names.
 #[derive(Clone, Copy, Debug, PartialEq, Eq, Drop)]
 pub enum Form {

@@ -1,3 +1,5 @@
+//! Names that were read by hand, and copies where there is memory.
+
 use crate::{BadName, Bytes, Command, Form, Name, Query, Texts, Verdict, errno, is_valid_short};
 use std::alloc::{AllocError, Global};
 use std::process::Abort;

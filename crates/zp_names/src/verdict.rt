@@ -1,3 +1,5 @@
+//! What a check says.
+
 ghost use Rattle.std.specs.Prelude.{◌≡◌, IfOk, []};
 
 use crate::Texts;

@@ -1,3 +1,5 @@
+//! Settings: the properties that a dataset holds itself.
+
 ghost use Rattle.std.specs.Prelude.{◌≡◌, IfOk};
 
 use std::alloc::Global;
@@ -7,14 +9,18 @@ use zp_names::{Bytes, Sequence};
 /// The value of a property: zfsprops(7).
 #[derive(Debug, Drop)]
 pub enum PropValue {
+    /// A whole number: of a native property that is one, as a size or a limit.
     Number(u64),
+    /// A text: of a user property, or of a native property that has named values.
     Text(Bytes),
 }
 
 /// A property that is set on a dataset itself: zfs-set(8).
 #[derive(Debug, Drop)]
 pub struct Setting {
+    /// The name of the property, UTF-8.
     pub name: Bytes,
+    /// The value that was set.
     pub value: PropValue,
 }
 

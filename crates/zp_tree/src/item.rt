@@ -1,3 +1,5 @@
+//! The records of a tree.
+
 ghost use Rattle.std.specs.Prelude.{◌≡◌, IfOk};
 
 use std::alloc::Global;
@@ -8,7 +10,9 @@ use zp_props::{Settings, copy_settings};
 /// What a head is: zfs(8), "file system" and "volume".
 #[derive(Clone, Copy, Debug, PartialEq, Eq, Drop)]
 pub enum HeadKind {
+    /// It may have datasets below it.
     Filesystem,
+    /// A block device of a fixed size; no dataset is below it.
     Volume,
 }
 
@@ -17,7 +21,9 @@ pub enum HeadKind {
 pub struct Head {
     /// The number of the record in order of birth, from 1; it is never used again.
     pub id: u64,
+    /// The full name, without a mark.
     pub name: Name,
+    /// File system or volume.
     pub kind: HeadKind,
     /// The id of the snapshot that a clone was made from.
     pub origin: Option<u64>,
@@ -25,6 +31,7 @@ pub struct Head {
     pub settings: Settings,
     /// The content: a number in place of data.
     pub stamp: u64,
+    /// Whether it is mounted (zfsprops(7), mounted): a flag, nothing is mounted.
     pub mounted: bool,
     /// The transaction group in which the record was born (zfsprops(7), createtxg).
     pub createtxg: u64,
@@ -33,6 +40,7 @@ pub struct Head {
 /// A user reference on a snapshot: zfs-hold(8).
 #[derive(Debug, Drop)]
 pub struct Hold {
+    /// The name of the reference, UTF-8.
     pub tag: Bytes,
     /// The moment at which the hold was placed, in seconds.
     pub at: u64,
@@ -44,35 +52,47 @@ pub type Holds = Sequence<Hold>;
 /// A snapshot of a head, by its owner's id and the name after the `@`.
 #[derive(Debug, Drop)]
 pub struct Snapshot {
+    /// The number of the record in order of birth.
     pub id: u64,
     /// The id of the head that it is a snapshot of.
     pub owner: u64,
+    /// The name after the `@`.
     pub short: Bytes,
+    /// The user properties that were set on it.
     pub settings: Settings,
+    /// The content of its head when it was made.
     pub stamp: u64,
+    /// The transaction group in which it was born.
     pub createtxg: u64,
     /// Whether it goes with its last hold or clone: zfs-destroy(8), `-d`.
     pub deferred: bool,
+    /// Its user references.
     pub holds: Holds,
 }
 
 /// A bookmark of a snapshot: zfs-bookmark(8).
 #[derive(Debug, Drop)]
 pub struct Bookmark {
+    /// The number of the record in order of birth.
     pub id: u64,
     /// The id of the head that it belongs to.
     pub owner: u64,
+    /// The name after the `#`.
     pub short: Bytes,
     /// The id of the snapshot that it was made from.
     pub source: u64,
+    /// The transaction group in which it was born.
     pub createtxg: u64,
 }
 
 /// A record of the tree.
 #[derive(Debug, Drop)]
 pub enum Item {
+    /// A file system or a volume.
     Head(Head),
+    /// A snapshot.
     Snap(Snapshot),
+    /// A bookmark.
     Mark(Bookmark),
 }
 

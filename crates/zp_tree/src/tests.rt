@@ -1,3 +1,5 @@
+//! Trees of a few records, worked out by hand.
+
 ghost use Rattle.std.specs.Prelude.{◌≡◌, IfOk};
 ghost use Rattle.zp_tree.specs.Tree.{id_of};
 

@@ -1,3 +1,5 @@
+//! The refusal of a document.
+
 use std::fmt;
 use zc_io::NoMemory;
 
