@@ -1,7 +1,7 @@
 //! The output: the journal, the replies and the tree as one JSON text.
 #![tactic(auto)]
 
-ghost use Rattle.std.specs.Prelude.{◌≡◌, All, IfOk, string_bytes};
+ghost use Rattle.std.specs.Prelude.{◌≡◌, All, IfOk};
 ghost use Rattle.serde_json.specs.View.{view};
 ghost use Rattle.zp_calls.specs.Replies.{IsPrintable};
 ghost use Rattle.zp_tree.specs.WellFormed.{IsWellFormed};
@@ -56,13 +56,13 @@ pub fn render<T: Datasets>(
     replies: &[Sequence<Reply>],
     tree: &T,
     synced: u64,
-) -> Result<String, NoMemory>
+) -> Result<Vec<u8>, NoMemory>
     requires well { IsWellFormed (T.tree tree.now) }
     requires printable { All (All IsPrintable) replies.now }
-    ensures { IfOk result (λ text. string_bytes text ≡ output_text journal.now replies.now synced (T.tree tree.now).records) }
+    ensures { IfOk result (λ bytes. bytes.items ≡ output_text journal.now replies.now synced (T.tree tree.now).records) }
 {
     let output = output_value(alloc, journal, replies, tree, synced)?;
     let mut text = output.to_string(alloc)?;
     text.push_str("\n")?;
-    Ok(text)
+    Ok(text.into_bytes())
 }

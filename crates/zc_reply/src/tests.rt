@@ -60,11 +60,11 @@ fn replies(alloc: Global) -> Result<Vec<Sequence<Reply>>, Fail>
 fn prints_the_root_alone(rt: HostRuntime) -> Result<(), Fail> {
     let alloc = rt.alloc();
     let tree = new_pool(alloc)?;
-    let text = render(alloc, &[], &[], &tree, 0)?;
+    let output = render(alloc, &[], &[], &tree, 0)?;
     let want = format!(in alloc;
         "{{\"journal\":[],\"replies\":[],\"synced\":0,\"tree\":[{ROOT}]}}\n"
     )?;
-    assert!(rt; text.as_str() == want.as_str());
+    assert!(rt; output.as_slice() == want.as_bytes());
     Ok(())
 }
 
@@ -83,7 +83,7 @@ fn prints_events_and_replies(rt: HostRuntime) -> Result<(), Fail> {
         Event::Take(11),
     ];
     let tree = new_pool(alloc)?;
-    let text = render(alloc, &journal, replies(alloc)?.as_slice(), &tree, 7)?;
+    let output = render(alloc, &journal, replies(alloc)?.as_slice(), &tree, 7)?;
     let events =
         "[\"hold\",0],[\"check\",1],[\"enqueue\",2],[\"read\",3],[\"quiesce\"],[\"begin\"],[\"sync\",10],[\"end\"],[\"take\",11]";
     let replies =
@@ -91,7 +91,7 @@ fn prints_events_and_replies(rt: HostRuntime) -> Result<(), Fail> {
     let want = format!(in alloc;
         "{{\"journal\":[{events}],\"replies\":[{replies}],\"synced\":7,\"tree\":[{ROOT}]}}\n"
     )?;
-    assert!(rt; text.as_str() == want.as_str());
+    assert!(rt; output.as_slice() == want.as_bytes());
     Ok(())
 }
 

@@ -1,6 +1,6 @@
 //! The top call.
 
-ghost use Rattle.std.specs.Prelude.{◌≡◌, ◌≢◌, ◌≤◌, ◌↔◌, ◌⊎◌, ℕ, List, true, false, length, Some, None, IfSome, MatchResult, string_bytes};
+ghost use Rattle.std.specs.Prelude.{◌≡◌, ◌≢◌, ◌≤◌, ◌↔◌, ◌⊎◌, ℕ, List, true, false, length, Some, None, IfSome, MatchResult};
 ghost use Rattle.std.specs.Io.KnownBytes.{Keeps};
 ghost use Rattle.zc_io.specs.Causes.{Rose};
 ghost use Rattle.zcpd.specs.Words.{asks_replay};
@@ -28,9 +28,9 @@ fn asks_replay(words: &[String]) -> bool
 }
 
 /// The output of the run that a document's schedule asks for, or why there is none.
-fn output_of(alloc: Global, bytes: &[u8]) -> Result<String, Status>
+fn output_of(alloc: Global, bytes: &[u8]) -> Result<Vec<u8>, Status>
     requires { length bytes.now ≤ most_bytes }
-    ensures { MatchResult result (λ text. IsOutput bytes.now (string_bytes text)) (λ status. Explains bytes.now status) }
+    ensures { MatchResult result (λ output. IsOutput bytes.now output.items) (λ status. Explains bytes.now status) }
 {
     let document = match read_document(alloc, bytes) {
         Ok(document) => document,
@@ -59,7 +59,7 @@ fn output_of(alloc: Global, bytes: &[u8]) -> Result<String, Status>
         core.synced(),
     );
     match rendered {
-        Ok(text) => Ok(text),
+        Ok(output) => Ok(output),
         Err(_) => Err(Status::NoMemory),
     }
 }
@@ -117,11 +117,11 @@ pub fn offline<S: Source, K: Sink>(
         Err(ReadFailure::TooLong(_)) => return Status::BadDocument(DocError::NotBuilt),
         Err(ReadFailure::NoMemory) => return Status::NoMemory,
     };
-    let text = match output_of(alloc, bytes.as_slice()) {
-        Ok(text) => text,
+    let output = match output_of(alloc, bytes.as_slice()) {
+        Ok(output) => output,
         Err(status) => return status,
     };
-    match write_all(sink, text.as_bytes()) {
+    match write_all(sink, output.as_slice()) {
         Ok(()) => Status::Ok,
         Err(_) => Status::WriteFault,
     }

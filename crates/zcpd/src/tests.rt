@@ -61,7 +61,15 @@ const TWO_GROUPS_OUTPUT: &str =
 
 /// The second group may not begin while the first one syncs.
 const BEGINS_TWICE: &str =
-    r#"{"pool":"rpool","now":0,"setup":[],"programs":{},"sessions":[[{"name":"rpool/a","op":"create"}],[{"name":"rpool/b","op":"create"}]],"schedule":[["hold",0],["check",0],["enqueue",0],["quiesce"],["hold",1],["check",1],["enqueue",1],["begin"],["sync",0],["quiesce"],["begin"]]}"#;
+    r#"{"pool":"rpool","now":0,"setup":[],"programs":{},"sessions":[[{"name":"rpool/a","op":"create"}],[{"name":"rpool/b","op":"create"}]],"schedule":[["hold",0],["check",0],["enqueue",0],["quiesce"],["hold",1],["check",1],["enqueue",1],["begin"],["sync",0],["quiesce"],["begin"],["begin"],["sync",1],["take",0],["end"],["take",1]]}"#;
+
+/// The second session held before its group quiesced, and enqueues into the quiescing group.
+const ENQUEUES_LATE: &str =
+    r#"{"pool":"rpool","now":0,"setup":[],"programs":{},"sessions":[[{"name":"rpool/a","op":"create"}],[{"name":"rpool/b","op":"create"}]],"schedule":[["hold",0],["hold",1],["check",0],["enqueue",0],["quiesce"],["check",1],["enqueue",1],["begin"],["sync",0],["sync",1],["end"],["take",1],["take",0]]}"#;
+
+const ENQUEUES_LATE_OUTPUT: &str =
+    r#"{"journal":[["hold",0],["hold",1],["check",0],["enqueue",0],["quiesce"],["check",1],["enqueue",1],["begin"],["sync",0],["sync",1],["end"],["take",1],["take",0]],"replies":[[{"errno":0}],[{"errno":0}]],"synced":1,"tree":[{"createtxg":0,"id":1,"kind":"filesystem","mounted":false,"name":"rpool","origin":null,"settings":{},"stamp":0},{"createtxg":1,"id":2,"kind":"filesystem","mounted":false,"name":"rpool/a","origin":null,"settings":{},"stamp":0},{"createtxg":1,"id":3,"kind":"filesystem","mounted":false,"name":"rpool/b","origin":null,"settings":{},"stamp":0}]}
+"#;
 
 /// The second session still holds in the group that should begin.
 const HOLDS_IN_GROUP: &str =
@@ -75,6 +83,7 @@ const OUT_OF_TURN: &str =
 const NO_SUCH_SESSION: &str =
     r#"{"pool":"rpool","now":0,"setup":[],"programs":{},"sessions":[[],[]],"schedule":[["hold",2]]}"#;
 
+/// As many sessions as a document may have, and the last one asks.
 const SIXTEEN: &str =
     r#"{"pool":"rpool","now":0,"setup":[],"programs":{},"sessions":[[],[],[],[],[],[],[],[],[],[],[],[],[],[],[],[{"name":"rpool","op":"exists"}]],"schedule":[["read",15]]}"#;
 
@@ -82,6 +91,7 @@ const SIXTEEN_OUTPUT: &str =
     r#"{"journal":[["read",15]],"replies":[[],[],[],[],[],[],[],[],[],[],[],[],[],[],[],[{"errno":0,"exists":true}]],"synced":0,"tree":[{"createtxg":0,"id":1,"kind":"filesystem","mounted":false,"name":"rpool","origin":null,"settings":{},"stamp":0}]}
 "#;
 
+/// One session too many.
 const SEVENTEEN: &str =
     r#"{"pool":"rpool","now":0,"setup":[],"programs":{},"sessions":[[],[],[],[],[],[],[],[],[],[],[],[],[],[],[],[],[]],"schedule":[]}"#;
 
@@ -117,6 +127,7 @@ fn replays(rt: HostRuntime) -> Result<(), Fail> {
         (CREATE, CREATE_OUTPUT),
         (NO_PARENT, NO_PARENT_OUTPUT),
         (TWO_GROUPS, TWO_GROUPS_OUTPUT),
+        (ENQUEUES_LATE, ENQUEUES_LATE_OUTPUT),
         (SIXTEEN, SIXTEEN_OUTPUT),
     ] {
         let (status, written) = replay(alloc, document)?;
@@ -170,15 +181,20 @@ fn refuses(rt: HostRuntime) -> Result<(), Fail> {
 #[test]
 fn knows_one_word(rt: HostRuntime) -> Result<(), Fail> {
     let alloc = rt.alloc();
-    let words = words(alloc, &["replay", "now"])?;
+    let unknown = words(alloc, &["replay", "now"])?;
+    let known = words(alloc, &["replay"])?;
     let mut source = SureSource::new(EMPTY.as_bytes().to_vec(alloc)?);
     let mut sink = SureSink::new(alloc, ROOM)?;
     assert_eq!(rt;
-        offline(alloc, words.as_slice(), &mut source, &mut sink),
+        offline(alloc, unknown.as_slice(), &mut source, &mut sink),
         Status::Usage
     );
     assert!(rt; sink.bytes().is_empty());
     assert_eq!(rt; offline(alloc, &[], &mut source, &mut sink), Status::Usage);
+    assert_eq!(rt;
+        offline(alloc, known.as_slice(), &mut source, &mut sink),
+        Status::Ok
+    );
     Ok(())
 }
 
@@ -198,13 +214,13 @@ fn faulty(
     Ok((status, sink.bytes().to_vec(alloc)?))
 }
 
-/// Each read fails in turn, also the one that would have found the end.
+/// Each read fails in turn, also the one that finds the end.
 #[test]
 fn tells_failing_reads(rt: HostRuntime) -> Result<(), Fail> {
     let alloc = rt.alloc();
     for document in [EMPTY, CREATE] {
-        let reads = document.len() as u64 / 10 + 2;
-        for read in 1..reads {
+        let reads = document.len().div_ceil(10) as u64 + 1;
+        for read in 1..reads + 1 {
             let (status, written) = faulty(alloc, document, &[read], &[])?;
             assert_eq!(rt; status, Status::ReadFault);
             assert!(rt; written.is_empty());
@@ -221,15 +237,13 @@ fn tells_failing_writes(rt: HostRuntime) -> Result<(), Fail> {
     let alloc = rt.alloc();
     for (document, output) in [(EMPTY, EMPTY_OUTPUT), (CREATE, CREATE_OUTPUT)] {
         let output = output.as_bytes();
-        let mut whole = 0;
-        for write in output.chunks(10) {
-            let number = whole as u64 / 10 + 1;
-            let (status, written) = faulty(alloc, document, &[], &[number])?;
+        let writes = output.len().div_ceil(10);
+        for done in 0..writes {
+            let (status, written) = faulty(alloc, document, &[], &[done as u64 + 1])?;
             assert_eq!(rt; status, Status::WriteFault);
-            assert!(rt; written.len() == whole && output.starts_with(written.as_slice()));
-            whole += write.len();
+            assert!(rt; written.len() == 10 * done && output.starts_with(written.as_slice()));
         }
-        let (status, written) = faulty(alloc, document, &[], &[whole as u64])?;
+        let (status, written) = faulty(alloc, document, &[], &[writes as u64 + 1])?;
         assert_eq!(rt; status, Status::Ok);
         assert!(rt; written.as_slice() == output);
     }

@@ -9,5 +9,6 @@ pub returns : goal.returns
 returns g c =
     let records = (g.T.Datasets.tree c.args.tree.now).records in
     let is : view c.in_ok-output.output ≡ output_data c.args.journal.now c.args.replies.now c.args.synced records = c.in_ok-output.ensures in
-    c.in_ok-push_str.ensures.bytes
+    ap (λ v. v.items) c.into_bytes.ensures.value
+    ∙ c.in_ok-push_str.ensures.bytes
     ∙ ap (λ (text : List ℕ). text ++ 10 ∷ []) (c.in_ok-text.ensures.text (ap has_float is ∙ output_float c.args.journal.now c.args.replies.now c.args.synced records) ∙ ap compact_text is)
