@@ -1,0 +1,6 @@
+pub mod SameParts
+pub mod Decoding
+pub mod Growing
+pub mod LabelsOnly
+pub mod PlacesBelow
+mod Examples

@@ -1,0 +1,9 @@
+pub mod Bytes
+pub mod Spelling
+pub mod Numerals
+pub mod Escapes
+pub mod Brackets
+pub mod Spells
+pub mod Lexes
+pub mod Values
+pub mod Scan
