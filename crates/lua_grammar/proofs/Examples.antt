@@ -1,5 +1,5 @@
 -- The grammar worked out at small texts, which stand before each example.
-use Rattle.std.specs.Prelude.{ℕ, true, false, List, [], ◌∷◌, refl, codes, pos}
+use Rattle.std.specs.Prelude.{ℕ, ◌≡◌, true, false, List, [], ◌∷◌, refl, codes, pos}
 use Rattle.lua_ast.specs.declared.node.Literal.TheVariants as literal
 use Rattle.lua_ast.specs.declared.node.BinOp.TheVariants as bin_op
 use Rattle.lua_ast.specs.declared.node.LogicOp.TheVariants as logic_op
@@ -8,7 +8,9 @@ use Rattle.lua_lexer.specs.declared.token.TokenKind.TheVariants as token_kind
 use Rattle.lua_ast.specs.Tree as tree
 use Rattle.lua_ast.specs.Tree.{Tree, none, snoc, no_case, case, absent, present, no_field, item, named, keyed}
 use Rattle.lua_grammar.specs.Values.{numeral_of, text_of}
-use Rattle.lua_grammar.specs.Grammar.{self_name}
+use Rattle.lua_grammar.specs.Grammar.{self_name, is_separator, Apart}
+use Rattle.lua_grammar.specs.Kinds as kind
+use Rattle.lua_grammar.specs.Signs.{Place, Sign, sign}
 use Rattle.lua_grammar.specs.Parses.{parsed, unexpected, unfinished}
 use Rattle.lua_grammar.specs.Deciding.{reading}
 use Rattle.lua_grammar.proofs.Words.{new_line, plain, a_name, a_number, a_text, ReadsAs, read_as}
@@ -60,6 +62,43 @@ subtraction_groups_to_the_left = read_as refl
 levels_of_operators : ReadsAs (plain token_kind.Return ∷ a_number (codes "1") ∷ plain token_kind.Plus ∷ a_number (codes "2") ∷ plain token_kind.Star ∷ a_number (codes "3") ∷ plain token_kind.Less ∷ a_name (codes "a") ∷ plain token_kind.And ∷ a_name (codes "b") ∷ plain token_kind.Or ∷ a_name (codes "x") ∷ []) (parsed (tree.Block 0 1 (snoc none (tree.Return 0 1 (snoc none (tree.Logic 0 1 logic_op.Or (tree.Logic 0 1 logic_op.And (tree.Binary 0 1 bin_op.Less (tree.Binary 0 1 bin_op.Add (numbered 1) (tree.Binary 0 1 bin_op.Mul (numbered 2) (numbered 3))) (named_by (codes "a"))) (named_by (codes "b"))) (named_by (codes "x"))))))))
 unfolding computing
 levels_of_operators = read_as refl
+
+-- return a > b >= c ~= d == false
+every_comparison : ReadsAs (plain token_kind.Return ∷ a_name (codes "a") ∷ plain token_kind.Greater ∷ a_name (codes "b") ∷ plain token_kind.GreaterEqual ∷ a_name (codes "c") ∷ plain token_kind.NotEqual ∷ a_name (codes "d") ∷ plain token_kind.Equal ∷ plain token_kind.False ∷ []) (parsed (tree.Block 0 1 (snoc none (tree.Return 0 1 (snoc none (tree.Binary 0 1 bin_op.Eq (tree.Binary 0 1 bin_op.Ne (tree.Binary 0 1 bin_op.GreaterEq (tree.Binary 0 1 bin_op.Greater (named_by (codes "a")) (named_by (codes "b"))) (named_by (codes "c"))) (named_by (codes "d"))) (tree.Const 0 1 (literal.Bool false))))))))
+unfolding computing
+every_comparison = read_as refl
+
+-- return 1 + 2 / 3 % 4 - 5 * 6
+products_before_sums : ReadsAs (plain token_kind.Return ∷ a_number (codes "1") ∷ plain token_kind.Plus ∷ a_number (codes "2") ∷ plain token_kind.Slash ∷ a_number (codes "3") ∷ plain token_kind.Percent ∷ a_number (codes "4") ∷ plain token_kind.Minus ∷ a_number (codes "5") ∷ plain token_kind.Star ∷ a_number (codes "6") ∷ []) (parsed (tree.Block 0 1 (snoc none (tree.Return 0 1 (snoc none (tree.Binary 0 1 bin_op.Sub (tree.Binary 0 1 bin_op.Add (numbered 1) (tree.Binary 0 1 bin_op.Mod (tree.Binary 0 1 bin_op.Div (numbered 2) (numbered 3)) (numbered 4))) (tree.Binary 0 1 bin_op.Mul (numbered 5) (numbered 6))))))))
+unfolding computing
+products_before_sums = read_as refl
+
+-- return a == b and x or y < z
+comparisons_before_and_before_or : ReadsAs (plain token_kind.Return ∷ a_name (codes "a") ∷ plain token_kind.Equal ∷ a_name (codes "b") ∷ plain token_kind.And ∷ a_name (codes "x") ∷ plain token_kind.Or ∷ a_name (codes "y") ∷ plain token_kind.Less ∷ a_name (codes "z") ∷ []) (parsed (tree.Block 0 1 (snoc none (tree.Return 0 1 (snoc none (tree.Logic 0 1 logic_op.Or (tree.Logic 0 1 logic_op.And (tree.Binary 0 1 bin_op.Eq (named_by (codes "a")) (named_by (codes "b"))) (named_by (codes "x"))) (tree.Binary 0 1 bin_op.Less (named_by (codes "y")) (named_by (codes "z")))))))))
+unfolding computing
+comparisons_before_and_before_or = read_as refl
+
+-- return a .. b + c < d
+sums_before_concatenation_before_comparisons : ReadsAs (plain token_kind.Return ∷ a_name (codes "a") ∷ plain token_kind.Concat ∷ a_name (codes "b") ∷ plain token_kind.Plus ∷ a_name (codes "c") ∷ plain token_kind.Less ∷ a_name (codes "d") ∷ []) (parsed (tree.Block 0 1 (snoc none (tree.Return 0 1 (snoc none (tree.Binary 0 1 bin_op.Less (tree.Binary 0 1 bin_op.Concat (named_by (codes "a")) (tree.Binary 0 1 bin_op.Add (named_by (codes "b")) (named_by (codes "c")))) (named_by (codes "d"))))))))
+unfolding computing
+sums_before_concatenation_before_comparisons = read_as refl
+
+-- return a or b or c
+or_groups_to_the_left : ReadsAs (plain token_kind.Return ∷ a_name (codes "a") ∷ plain token_kind.Or ∷ a_name (codes "b") ∷ plain token_kind.Or ∷ a_name (codes "c") ∷ []) (parsed (tree.Block 0 1 (snoc none (tree.Return 0 1 (snoc none (tree.Logic 0 1 logic_op.Or (tree.Logic 0 1 logic_op.Or (named_by (codes "a")) (named_by (codes "b"))) (named_by (codes "c"))))))))
+unfolding computing
+or_groups_to_the_left = read_as refl
+
+-- return a and b and c
+and_groups_to_the_left : ReadsAs (plain token_kind.Return ∷ a_name (codes "a") ∷ plain token_kind.And ∷ a_name (codes "b") ∷ plain token_kind.And ∷ a_name (codes "c") ∷ []) (parsed (tree.Block 0 1 (snoc none (tree.Return 0 1 (snoc none (tree.Logic 0 1 logic_op.And (tree.Logic 0 1 logic_op.And (named_by (codes "a")) (named_by (codes "b"))) (named_by (codes "c"))))))))
+unfolding computing
+and_groups_to_the_left = read_as refl
+
+-- A semicolon parts fields, and after a prefix no statement begins with a parenthesis.
+semicolons_part_fields : is_separator kind.Semicolon ≡ true
+semicolons_part_fields = refl
+
+no_parenthesis_after_a_prefix : (i : Place) (x : List Sign) → Apart true (sign kind.OpenParen i ∷ x) → ⊥
+no_parenthesis_after_a_prefix i x apart = apart
 
 -- return a < b <= x
 comparisons_group_to_the_left : ReadsAs (plain token_kind.Return ∷ a_name (codes "a") ∷ plain token_kind.Less ∷ a_name (codes "b") ∷ plain token_kind.LessEqual ∷ a_name (codes "x") ∷ []) (parsed (tree.Block 0 1 (snoc none (tree.Return 0 1 (snoc none (tree.Binary 0 1 bin_op.LessEq (tree.Binary 0 1 bin_op.Less (named_by (codes "a")) (named_by (codes "b"))) (named_by (codes "x"))))))))

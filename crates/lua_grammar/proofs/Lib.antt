@@ -13,6 +13,7 @@ pub mod Decides
 pub mod Words
 mod Examples
 mod Levels
+mod LevelTokens
 mod Programs
 pub mod Lines
 pub mod Loose

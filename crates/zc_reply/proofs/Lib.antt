@@ -1,4 +1,4 @@
 mod Ordered
-mod NoFloat
+pub mod NoFloat
 mod Texts
 pub mod Telling

@@ -57,7 +57,7 @@ put_at Equal k l d e ms here there rest more = rw (here, rest) refl
 put_at Greater k l d e ms here there rest more = rw (there, more) refl
 
 -- an object with one more member
-put_float : (k : List ℕ) (d : Data) (ms : Members) → has_float d ≡ false → members_have_float ms ≡ false → members_have_float (put k d ms) ≡ false
+pub put_float : (k : List ℕ) (d : Data) (ms : Members) → has_float d ≡ false → members_have_float ms ≡ false → members_have_float (put k d ms) ≡ false
 put_float k d no_members here rest = rw here refl
 put_float k d (member l e ms) here rest =
     let parts = or_parts (has_float e) (members_have_float ms) rest in

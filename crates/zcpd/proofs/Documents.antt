@@ -6,9 +6,11 @@ use Rattle.serde_json.specs.Events.{items_len}
 use Rattle.zp_names.specs.NameParts.{is_pool}
 use Rattle.zp_calls.specs.declared.call.Call.{Call}
 use Rattle.zcpd.specs.declared.document.Document.{Document}
+use Rattle.zcpd.specs.declared.document.Need.{Need}
 use Rattle.zcpd.specs.declared.document.error.DocError.{DocError}
 use Rattle.zcpd.specs.Reading.{◌>>=◌, where_passes, items, array_within, member, only_if, number_below, Gives}
-use Rattle.zcpd.specs.Document.{any_name_at, pool_at, call_at, event_at, most_calls, most_sessions, most_events, most_bytes, document_members, document_at, document_of, data_of, has_form}
+use Rattle.zcpd.specs.Document.{any_name_at, pool_at, call_at, schedule_in, most_calls, most_sessions, most_bytes, document_members, document_at, document_of, data_of, has_form}
+use Rattle.zcpd.specs.Programs.{programs_at}
 use Rattle.zcpd.proofs.Values.{within-array}
 
 record Bound {A B : Type 0} (o : Option A) (f : A → Option B) (y : B) : Type 0 where
@@ -64,16 +66,17 @@ only : {A : Type 0} (b : Bool) (o : Option A) (y : A) → only_if b o ≡ Some y
 only false o y e = cc
 only true o y e = e
 
-members-facts : (d : Data) (doc : Document) → document_members d ≡ Some doc → HasFacts doc
+members-facts : (n : Need) (d : Data) (doc : Document) → document_members n d ≡ Some doc → HasFacts doc
 unfolding document_members
-members-facts d doc e =
+members-facts n d doc e =
     let pool = bound (member pool_at (codes "pool") d) _ doc e in
     let now = bound (member (number_below (2 ^ 63)) (codes "now") d) _ doc pool.gives in
-    let sessions = bound (member (array_within most_sessions (array_within most_calls (call_at pool.value))) (codes "sessions") d) _ doc now.gives in
-    let schedule = bound (member (array_within most_events (event_at (length sessions.value))) (codes "schedule") d) _ doc sessions.gives in
+    let programs = bound (member programs_at (codes "programs") d) _ doc now.gives in
+    let sessions = bound (member (array_within most_sessions (array_within most_calls (call_at pool.value))) (codes "sessions") d) _ doc programs.gives in
+    let schedule = bound (schedule_in n (length sessions.value) d) _ doc sessions.gives in
     let name = bound (get (codes "pool") d) pool_at pool.value pool.is in
     let text = bound (any_name_at name.value) (where_passes is_pool) pool.value name.gives in
-    let built : Document = record { pool = pool.value; now = now.value; sessions = sessions.value; schedule = schedule.value } in
+    let built : Document = record { pool = pool.value; now = now.value; programs = programs.value; sessions = sessions.value; schedule = schedule.value } in
     let is : built ≡ doc = made built doc schedule.gives in
     subst HasFacts is (record {
       pool = passes is_pool text.value pool.value text.gives;
@@ -83,16 +86,16 @@ members-facts d doc e =
     made : (x y : Document) → Some x ≡ Some y → x ≡ y
     made x y e = cc
 
-pub document-facts : (bytes : List ℕ) (doc : Document) → document_of bytes ≡ Some doc → HasFacts doc
+pub document-facts : (n : Need) (bytes : List ℕ) (doc : Document) → document_of n bytes ≡ Some doc → HasFacts doc
 unfolding document_of
-document-facts bytes doc e =
-    let read = bound (data_of bytes) document_at doc (only (nat_le (length bytes) most_bytes) (data_of bytes >>= document_at) doc e) in
-    members-facts read.value doc (only (has_form read.value) (document_members read.value) doc read.gives)
+document-facts n bytes doc e =
+    let read = bound (data_of bytes) (document_at n) doc (only (nat_le (length bytes) most_bytes) (data_of bytes >>= document_at n) doc e) in
+    members-facts n read.value doc (only (has_form read.value) (document_members n read.value) doc read.gives)
 
 -- what was read has them
-pub read-facts : (bytes : List ℕ) (r : Result Document DocError) → Gives r (document_of bytes) → IfOk r HasFacts
-read-facts bytes (Ok doc) e = document-facts bytes doc e
-read-facts bytes (Err e) g = tt
+pub read-facts : (n : Need) (bytes : List ℕ) (r : Result Document DocError) → Gives r (document_of n bytes) → IfOk r HasFacts
+read-facts n bytes (Ok doc) e = document-facts n bytes doc e
+read-facts n bytes (Err e) g = tt
 
 pub read-pool : (r : Result Document DocError) → IfOk r HasFacts → IfOk r (λ (doc : Document). is_pool doc.pool ≡ true)
 read-pool (Ok doc) f = f.pool

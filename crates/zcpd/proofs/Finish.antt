@@ -17,6 +17,7 @@ use Rattle.txg_core.specs.declared.event.Entry.{Entry}
 use Rattle.txg_core.specs.declared.event.Entry.TheVariants as entry
 use Rattle.txg_core.proofs.CallsLemmas.{entry-is, one-history}
 use Rattle.zcpd.specs.declared.document.Document.{Document}
+use Rattle.zcpd.specs.declared.document.Need.TheVariants.{Schedule}
 use Rattle.zcpd.specs.declared.replay.Run.{Run}
 use Rattle.zcpd.specs.Pool.{pool_rules}
 use Rattle.zcpd.specs.Replay.{Follows, call_in, StopsAt}
@@ -115,14 +116,14 @@ runs-or-stops bytes i out stops = go out.1.document stops.document out.1.is stop
         let same = one-history (origin_of doc) (call_in doc.sessions) (take i doc.schedule) at.history s.history before s.before in
         s.refused (subst (λ (g : List (Entry Call)). MayFollow (origin_of doc) (call_in doc.sessions) g s.event) same at.may)
 
-    go : (doc other : Document) → document_of bytes ≡ Some doc → document_of bytes ≡ Some other → (h : List (Entry Call)) → IsLegalRun doc doc.schedule h → StopsAt (origin_of other) other.sessions other.schedule i → ⊥
+    go : (doc other : Document) → document_of Schedule bytes ≡ Some doc → document_of Schedule bytes ≡ Some other → (h : List (Entry Call)) → IsLegalRun doc doc.schedule h → StopsAt (origin_of other) other.sessions other.schedule i → ⊥
     go doc other a b h run s =
         let both : Some doc ≡ Some other = sym a ∙ b in
         let is : other ≡ doc = cc in
         meets doc h run (subst (λ (d : Document). StopsAt (origin_of d) d.sessions d.schedule i) is s)
 
 -- a document is no other
-pub is-or-not : (bytes : List ℕ) → HasOutput bytes → document_of bytes ≡ None → ⊥
+pub is-or-not : (bytes : List ℕ) → HasOutput bytes → document_of Schedule bytes ≡ None → ⊥
 is-or-not bytes out none = let gone : None ≡ Some out.1.document = sym none ∙ out.1.is in cc
 
 -- ---- one event at most is the first that isn't enabled
@@ -167,5 +168,5 @@ one-refusal bytes i k a b =
     one-stop (origin_of a.document) a.document.sessions a.document.schedule i k a.stops (subst (λ (d : Document). StopsAt (origin_of d) d.sessions d.schedule k) is b.stops)
 
 -- a document that is refused for an event is one
-pub refused-is : (bytes : List ℕ) (i : ℕ) → IsNotEnabled bytes i → document_of bytes ≡ None → ⊥
+pub refused-is : (bytes : List ℕ) (i : ℕ) → IsNotEnabled bytes i → document_of Schedule bytes ≡ None → ⊥
 refused-is bytes i stops none = let gone : None ≡ Some stops.document = sym none ∙ stops.is in cc

@@ -6,3 +6,4 @@ pub mod Steps
 pub mod Printable
 pub mod Finish
 pub mod Answer
+pub mod Verdicts

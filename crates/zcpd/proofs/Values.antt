@@ -1,5 +1,5 @@
 -- Values of a document, and what is read of them.
-use Rattle.std.proofs.Common.{◌≡◌, ℕ, ◌≤◌, List, [], ◌∷◌, length, Option, Some, None, suc, refl, sym, ap, ◌∙◌, arith, Bool, true, false, cond, nat_le, String, Global}
+use Rattle.std.proofs.Common.{◌≡◌, ℕ, ◌≤◌, List, [], ◌∷◌, ◌++◌, append_assoc, string_bytes, length, Option, Some, None, suc, refl, sym, ap, ◌∙◌, arith, Bool, true, false, cond, nat_le, String, Global}
 use Rattle.std.proofs.lemmas.Bool.{leb-true}
 use Rattle.serde_json.specs.Data.{Data, null, boolean, number, string, array, object, Items, no_items, item}
 use Rattle.serde_json.specs.Find.{get, as_array}
@@ -7,6 +7,8 @@ use Rattle.serde_json.specs.View.{view, items_view, members_view}
 use Rattle.serde_json.specs.Events.{items_len, members_len}
 use Rattle.serde_json.specs.declared.value.Value.{Value}
 use Rattle.serde_json.proofs.Views.{items_len-items_view, members_len-members_view}
+use Rattle.zcpd.specs.declared.document.program.Program.{Program}
+use Rattle.zcpd.specs.Programs.{program_at, programs_in}
 use Rattle.zcpd.specs.Reading.{◌>>=◌, items, array_within, member}
 use Rattle.zcpd.specs.Document.{event_of, event_at}
 
@@ -72,3 +74,19 @@ no-event n d [] e one two = event-is n d no_items e
 no-event n d (a ∷ []) e one two = absurd (one refl)
 no-event n d (a ∷ b ∷ []) e one two = absurd (two refl)
 no-event n d (a ∷ b ∷ c ∷ vs) e one two = event-is n d (items_view (a ∷ b ∷ c ∷ vs)) e ∙ long-none n (view a) (view b) (view c) (items_view vs)
+
+-- ---- programs, member by member
+
+pub one-program : (left rest : List (String Global × Value)) (key : String Global) (v : Value) (name : List ℕ) (found : List Program) (p : Program) (all : Option (List Program)) →
+    left ≡ (key, v) ∷ rest → name ≡ string_bytes key → program_at name (view v) ≡ Some p →
+    (programs_in (members_view left) >>= λ ps. Some (found ++ ps)) ≡ all → (programs_in (members_view rest) >>= λ ps. Some ((found ++ p ∷ []) ++ ps)) ≡ all
+one-program left rest key v name found p all is named reads e =
+    let at : program_at (string_bytes key) (view v) ≡ Some p = ap (λ (n : List ℕ). program_at n (view v)) (sym named) ∙ reads in
+    later (programs_in (members_view rest))
+    ∙ sym (ap (λ (es : List (String Global × Value)). programs_in (members_view es) >>= λ ps. Some (found ++ ps)) is
+    ∙ ap (λ (o : Option Program). (o >>= λ q. programs_in (members_view rest) >>= λ ps. Some (q ∷ ps)) >>= λ ps. Some (found ++ ps)) at)
+    ∙ e
+  where
+    later : (o : Option (List Program)) → (o >>= λ ps. Some ((found ++ p ∷ []) ++ ps)) ≡ ((o >>= λ ps. Some (p ∷ ps)) >>= λ ps. Some (found ++ ps))
+    later None = refl
+    later (Some ps) = ap Some (append_assoc found (p ∷ []) ps)

@@ -1,5 +1,5 @@
 -- Which document the bytes are: one JSON object (RFC 8259) of the form that is built so far.
-use Rattle.std.specs.Prelude.{ℕ, ◌^◌, ◌&&◌, Bool, nat_le, if◌then◌else◌, List, length, codes, bytes_eq, Option, Some, None}
+use Rattle.std.specs.Prelude.{ℕ, ◌^◌, ◌&&◌, Bool, nat_le, if◌then◌else◌, List, [], length, codes, bytes_eq, Option, Some, None}
 use Rattle.std.specs.Str.{is_utf8}
 use Rattle.serde_json.specs.Data.{Data, string, Items, no_items, item}
 use Rattle.serde_json.specs.Read.{read}
@@ -13,7 +13,10 @@ use Rattle.txg_core.specs.declared.event.Event.TheVariants as event
 use Rattle.zp_calls.specs.declared.call.Call.{Call}
 use Rattle.zp_calls.specs.declared.call.Call.TheVariants as call
 use Rattle.zcpd.specs.declared.document.Document.{Document}
-use Rattle.zcpd.specs.Reading.{◌>>=◌, where_passes, number_below, member, has_width, array_within, is_empty_array, is_empty_object, only_if, member_passes}
+use Rattle.zcpd.specs.declared.document.Need.{Need}
+use Rattle.zcpd.specs.declared.document.Need.TheVariants as need
+use Rattle.zcpd.specs.Reading.{◌>>=◌, where_passes, number_below, member, has_width, array_within, is_empty_array, only_if, has_member, member_or, member_passes}
+use Rattle.zcpd.specs.Programs.{programs_at}
 
 -- ---- names
 
@@ -77,24 +80,38 @@ most_events = 128000
 abbrev pub most_bytes : ℕ
 most_bytes = 16777216
 
-unfoldable pub document_members : Data → Option Document
-document_members d = do
+-- the schedule where the member is missing
+abbrev pub no_schedule : Need → Option (List Event)
+no_schedule need.Any = Some []
+no_schedule need.Schedule = None
+
+-- the events, where there are so many sessions
+abbrev pub schedule_in : Need → ℕ → Data → Option (List Event)
+schedule_in n sessions d = member_or (no_schedule n) (array_within most_events (event_at sessions)) (codes "schedule") d
+
+unfoldable pub document_members : Need → Data → Option Document
+document_members n d = do
   pool ← member pool_at (codes "pool") d
   now ← member (number_below (2 ^ 63)) (codes "now") d
+  programs ← member programs_at (codes "programs") d
   sessions ← member (array_within most_sessions (array_within most_calls (call_at pool))) (codes "sessions") d
-  schedule ← member (array_within most_events (event_at (length sessions))) (codes "schedule") d
-  Some (record { pool = pool; now = now; sessions = sessions; schedule = schedule })
+  schedule ← schedule_in n (length sessions) d
+  Some (record { pool = pool; now = now; programs = programs; sessions = sessions; schedule = schedule })
 
--- an object with just the six members, of which `setup` and `programs` are empty
+-- how many members there are to be: one less without a schedule
+abbrev pub members_wanted : Data → ℕ
+members_wanted d = if has_member (codes "schedule") d then 6 else 5
+
+-- an object with no other members, of which `setup` is empty
 abbrev pub has_form : Data → Bool
-has_form d = has_width 6 d && (member_passes is_empty_array (codes "setup") d && member_passes is_empty_object (codes "programs") d)
+has_form d = has_width (members_wanted d) d && member_passes is_empty_array (codes "setup") d
 
-abbrev pub document_at : Data → Option Document
-document_at d = only_if (has_form d) (document_members d)
+abbrev pub document_at : Need → Data → Option Document
+document_at n d = only_if (has_form d) (document_members n d)
 
 abbrev pub data_of : List ℕ → Option Data
 data_of bytes = if is_utf8 bytes then read bytes else None
 
--- the document that the bytes are
-unfoldable pub document_of : List ℕ → Option Document
-document_of bytes = if nat_le (length bytes) most_bytes then data_of bytes >>= document_at else None
+-- the document that the bytes are, where this is needed of it
+unfoldable pub document_of : Need → List ℕ → Option Document
+document_of n bytes = if nat_le (length bytes) most_bytes then data_of bytes >>= document_at n else None

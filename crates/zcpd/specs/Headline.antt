@@ -1,4 +1,4 @@
--- What a run of a document is, and what is written for it.
+-- What a run of a document is, and what is written for it and for a check.
 use Rattle.std.specs.Prelude.{◌≡◌, ◌<◌, ◌+◌, ◌⊎◌, ℕ, List, length, map, take, Option, Some, None}
 use Rattle.std.specs.Io.KnownBytes.{Appends, IsAtEnd}
 use Rattle.zc_io.specs.Reading.{TakesFirst}
@@ -15,11 +15,16 @@ use Rattle.txg_core.specs.Enabled.{Legal}
 use Rattle.txg_core.specs.Calls.{IsHistoryOf}
 use Rattle.txg_core.specs.declared.event.Event.{Event}
 use Rattle.zcpd.specs.declared.document.Document.{Document}
+use Rattle.zcpd.specs.declared.document.Need.{Need}
+use Rattle.zcpd.specs.declared.document.Need.TheVariants.{Any, Schedule}
 use Rattle.zcpd.specs.Pool.{pool_rules}
 use Rattle.zcpd.specs.Replay.{call_in, all_given, StopsAt}
 use Rattle.zcpd.specs.Document.{document_of, most_bytes}
 use Rattle.zcpd.specs.declared.document.error.DocError.{DocError}
 use Rattle.zcpd.specs.declared.document.error.DocError.TheVariants.{NotBuilt, NoMemory}
+use Rattle.zcpd.specs.declared.words.Asked.{Asked}
+use Rattle.zcpd.specs.declared.words.Asked.TheVariants.{Replay, Check}
+use Rattle.zcpd.specs.Check.{IsCheckOf}
 use Rattle.zcpd.specs.declared.status.Status.{Status}
 use Rattle.zcpd.specs.declared.status.Status.TheVariants as status
 
@@ -40,7 +45,7 @@ output_of doc h = output_text (journal_of h) (all_given (origin_of doc) h) (sync
 -- the text is the output of the run that the document's schedule asks for, where the bytes are the document
 pub record IsOutput (bytes text : List ℕ) : Type 0 where
   pub document : Document
-  pub is : document_of bytes ≡ Some document
+  pub is : document_of Schedule bytes ≡ Some document
   pub history : List (Entry Call)
   pub run : IsLegalRun document document.schedule history
   pub text_is : text ≡ output_of document history
@@ -49,34 +54,62 @@ pub record IsOutput (bytes text : List ℕ) : Type 0 where
 abbrev pub HasOutput : List ℕ → Type 0
 HasOutput bytes = (text : List ℕ) × IsOutput bytes text
 
--- the bytes are no document, for this reason
-abbrev pub IsNotDocument : List ℕ → DocError → Type 0
-IsNotDocument bytes NotBuilt = document_of bytes ≡ None
-IsNotDocument bytes NoMemory = ⊥
+-- the bytes are no document that has what is needed, for this reason
+abbrev pub IsNotDocument : Need → List ℕ → DocError → Type 0
+IsNotDocument need bytes NotBuilt = document_of need bytes ≡ None
+IsNotDocument need bytes NoMemory = ⊥
 
 -- event i of the document's schedule is the first that is not enabled after those before it
 pub record IsNotEnabled (bytes : List ℕ) (i : ℕ) : Type 0 where
   pub document : Document
-  pub is : document_of bytes ≡ Some document
+  pub is : document_of Schedule bytes ≡ Some document
   pub stops : StopsAt (origin_of document) document.sessions document.schedule i
 
--- why there is no output
-abbrev pub Explains : List ℕ → Status → Type 0
-Explains bytes (status.BadDocument e) = IsNotDocument bytes e
-Explains bytes (status.NotEnabled i) = IsNotEnabled bytes i
-Explains bytes status.NoMemory = Unit {0}
-Explains bytes _ = ⊥
+-- the text is the output of a check of the document that the bytes are
+pub record IsCheck (bytes text : List ℕ) : Type 0 where
+  pub document : Document
+  pub is : document_of Any bytes ≡ Some document
+  pub check : IsCheckOf document text
 
--- the output for the input was written
-pub record Writes (before after : Option (List ℕ)) (input : List ℕ) : Type 0 where
+-- ---- what each command gives
+
+-- what is needed of a document
+abbrev pub need_of : Asked → Need
+need_of Replay = Schedule
+need_of Check = Any
+
+-- the text is what the command writes for the bytes
+abbrev pub IsAnswer : Asked → List ℕ → List ℕ → Type 0
+IsAnswer Replay bytes text = IsOutput bytes text
+IsAnswer Check bytes text = IsCheck bytes text
+
+-- nothing in the bytes is refused: they are a document, for a replay one whose schedule is a legal run
+abbrev pub IsAccepted : Asked → List ℕ → Type 0
+IsAccepted Replay bytes = HasOutput bytes
+IsAccepted Check bytes = (document : Document) × (document_of Any bytes ≡ Some document)
+
+-- a refused event explains why there is no output
+abbrev pub IsStopped : Asked → List ℕ → ℕ → Type 0
+IsStopped Replay bytes i = IsNotEnabled bytes i
+IsStopped Check bytes i = ⊥
+
+-- why there is no output
+abbrev pub Explains : Asked → List ℕ → Status → Type 0
+Explains a bytes (status.BadDocument e) = IsNotDocument (need_of a) bytes e
+Explains a bytes (status.NotEnabled i) = IsStopped a bytes i
+Explains a bytes status.NoMemory = Unit {0}
+Explains a bytes _ = ⊥
+
+-- what the command writes for the input was written
+pub record Writes (a : Asked) (before after : Option (List ℕ)) (input : List ℕ) : Type 0 where
   pub text : List ℕ
-  pub output : IsOutput input text
+  pub output : IsAnswer a input text
   pub written : Appends before after text
 
--- a first part of the output for the input was written
-pub record WritesFront (before after : Option (List ℕ)) (input : List ℕ) : Type 0 where
+-- a first part of it was written
+pub record WritesFront (a : Asked) (before after : Option (List ℕ)) (input : List ℕ) : Type 0 where
   pub text : List ℕ
-  pub output : IsOutput input text
+  pub output : IsAnswer a input text
   pub count : ℕ
   pub short : count < length text
   pub written : Appends before after (take count text)

@@ -1,7 +1,10 @@
 pub mod Pool
 pub mod Reading
+pub mod Programs
 pub mod Document
 pub mod Words
+pub mod LoadErrors
+pub mod Check
 pub mod Status
 pub mod Replay
 pub mod Headline

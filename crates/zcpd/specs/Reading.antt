@@ -1,5 +1,5 @@
 -- Reading the parts of a document from a JSON value: what stands there, or none where it has another form.
-use Rattle.std.specs.Prelude.{ℕ, ◌==◌, ◌≡◌, ⊤, Bool, false, nat_lt, nat_le, if◌then◌else◌, List, [], ◌∷◌, Option, Some, None, option_map, Result, Ok, Err}
+use Rattle.std.specs.Prelude.{ℕ, ◌==◌, ◌≡◌, ⊤, Bool, false, nat_lt, nat_le, if◌then◌else◌, List, [], ◌∷◌, Option, Some, None, is_some, option_map, Result, Ok, Err}
 use Rattle.std.specs.Option.{option_map_or}
 use Rattle.serde_json.specs.Data.{Data, Items, no_items, item}
 use Rattle.serde_json.specs.Find.{get, as_number, as_u64, as_array, as_object}
@@ -23,6 +23,14 @@ number_below limit d = as_number d >>= λ n. as_u64 n >>= λ k. where_passes (λ
 -- the member of this name
 abbrev pub member : {A : Type 0} → (Data → Option A) → List ℕ → Data → Option A
 member reads key d = get key d >>= reads
+
+-- the member of this name is there
+abbrev pub has_member : List ℕ → Data → Bool
+has_member key d = is_some (get key d)
+
+-- the member of this name, or this where it is missing
+abbrev pub member_or : {A : Type 0} → Option A → (Data → Option A) → List ℕ → Data → Option A
+member_or missing reads key d = option_map_or reads (get key d) missing
 
 -- how many members an object has, and how many items an array has
 abbrev pub width_of : Data → Option ℕ
@@ -48,10 +56,6 @@ items reads (item d ds) = reads d >>= λ x. items reads ds >>= λ xs. Some (x �
 -- an array of at most so many items
 abbrev pub array_within : {A : Type 0} → ℕ → (Data → Option A) → Data → Option (List A)
 array_within limit reads d = as_array d >>= λ ds. if nat_le (items_len ds) limit then items reads ds else None
-
--- an object without members
-abbrev pub is_empty_object : Data → Bool
-is_empty_object d = has_width 0 d
 
 -- an array without items
 abbrev pub is_empty_array : Data → Bool

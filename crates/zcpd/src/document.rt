@@ -4,17 +4,21 @@ ghost use Rattle.std.specs.Prelude.{◌≡◌, ◌≤◌, true, All, length, IfO
 ghost use Rattle.zp_names.specs.NameParts.{is_pool};
 ghost use Rattle.serde_json.specs.View.{view};
 ghost use Rattle.zcpd.specs.Reading.{Gives};
-ghost use Rattle.zcpd.specs.Document.{has_form, document_members, document_at, document_of, most_bytes, most_calls};
+ghost use Rattle.zcpd.specs.Programs.{AreNamed};
+ghost use Rattle.zcpd.specs.Document.{has_form, members_wanted, schedule_in, document_members, document_at, document_of, most_bytes, most_calls};
 
 mod call;
 mod error;
 mod event;
+mod program;
 mod reading;
 
 use call::{CallIn, PoolName};
 pub use error::DocError;
 use event::EventOf;
-use reading::{ArrayWithin, NumberBelow, has_width, is_empty_array, member};
+pub use program::Program;
+use program::read_programs;
+use reading::{ArrayWithin, NumberBelow, Reader, has_width, is_empty_array, member};
 use serde_json::Value;
 use std::alloc::Global;
 use txg_core::Event;
@@ -37,53 +41,98 @@ pub struct Document {
     pub pool: Name,
     /// The moment of the run, in seconds.
     pub now: u64,
+    /// The channel programs, in byte order of their names.
+    pub programs: Sequence<Program>,
     /// The calls of each session, in their order.
     pub sessions: Sequence<Sequence<Call>>,
     /// The events to be done, in their order.
     pub schedule: Sequence<Event>,
 }
 
-/// Reads a document from its bytes.
+/// Which members a document has to have.
+#[derive(Clone, Copy, Debug, PartialEq, Eq, Drop)]
+pub enum Need {
+    /// The schedule may be missing.
+    Any,
+    /// The schedule is there.
+    Schedule,
+}
+
+/// Reads a document from its bytes. Where its schedule is missing, it has no events.
 #[tactic(auto, unfolding(crate::specs::Document::document_of))]
-pub fn read_document(alloc: Global, bytes: &[u8]) -> Result<Document, DocError>
+pub fn read_document(alloc: Global, bytes: &[u8], need: Need) -> Result<Document, DocError>
     requires { length bytes.now ≤ most_bytes }
-    ensures document { Gives result (document_of bytes.now) }
+    ensures document { Gives result (document_of need bytes.now) }
     // What the form says of the document.
     ensures pool { IfOk result (λ document. is_pool document.pool ≡ true) }
+    ensures names { IfOk result (λ document. AreNamed document.programs) }
     ensures calls { IfOk result (λ document. All (λ calls. length calls ≤ most_calls) document.sessions) }
 {
     match Value::from_slice(alloc, bytes) {
-        Ok(value) => read_value(alloc, &value),
+        Ok(value) => read_value(alloc, &value, need),
         Err(error) if error.is_memory() => Err(DocError::NoMemory),
         Err(_) => Err(DocError::NotBuilt),
+    }
+}
+
+/// How many members there are to be.
+fn members_wanted(value: &Value) -> usize
+    ensures { result ≡ members_wanted (view value.now) }
+{
+    if value.get("schedule").is_some() {
+        6
+    } else {
+        5
     }
 }
 
 fn has_form(value: &Value) -> bool
     ensures { result ≡ has_form (view value.now) }
 {
-    has_width(value, 6)
-        && value.get("setup").is_some_and(is_empty_array)
-        && value
-            .get("programs")
-            .is_some_and(|member| has_width(member, 0))
+    has_width(value, members_wanted(value)) && value.get("setup").is_some_and(is_empty_array)
 }
 
-fn read_value(alloc: Global, value: &Value) -> Result<Document, DocError>
-    ensures { Gives result (document_at (view value.now)) }
+fn read_value(alloc: Global, value: &Value, need: Need) -> Result<Document, DocError>
+    ensures read { Gives result (document_at need (view value.now)) }
+    ensures names { IfOk result (λ document. AreNamed document.programs) }
 {
     if !has_form(value) {
         return Err(DocError::NotBuilt);
     }
-    read_members(alloc, value)
+    read_members(alloc, value, need)
+}
+
+/// Reads the schedule of a document with so many sessions.
+fn read_schedule(
+    alloc: Global,
+    value: &Value,
+    need: Need,
+    sessions: u32,
+) -> Result<Sequence<Event>, DocError>
+    ensures { Gives result (schedule_in need sessions (view value.now)) }
+{
+    let events = ArrayWithin {
+        limit: MOST_EVENTS,
+        item: EventOf { sessions },
+    };
+    match (value.get("schedule"), need) {
+        (Some(schedule), _) => events.read(alloc, schedule),
+        (None, Need::Any) => Ok(Sequence::new(alloc)),
+        (None, Need::Schedule) => Err(DocError::NotBuilt),
+    }
 }
 
 #[tactic(auto, unfolding(crate::specs::Document::document_members))]
-fn read_members(alloc: Global, value: &Value) -> Result<Document, DocError>
-    ensures { Gives result (document_members (view value.now)) }
+fn read_members(alloc: Global, value: &Value, need: Need) -> Result<Document, DocError>
+    ensures read { Gives result (document_members need (view value.now)) }
+    ensures names { IfOk result (λ document. AreNamed document.programs) }
 {
     let pool = member(alloc, &PoolName, "pool", value)?;
     let now = member(alloc, &NumberBelow { limit: 1 << 63 }, "now", value)?;
+    let programs = match value.get("programs") {
+        Some(programs) => read_programs(alloc, programs)?,
+        None => return Err(DocError::NotBuilt),
+    };
     let calls = ArrayWithin {
         limit: MOST_CALLS,
         item: CallIn { pool: &pool },
@@ -93,16 +142,11 @@ fn read_members(alloc: Global, value: &Value) -> Result<Document, DocError>
         item: calls,
     };
     let sessions = member(alloc, &sessions, "sessions", value)?;
-    let events = ArrayWithin {
-        limit: MOST_EVENTS,
-        item: EventOf {
-            sessions: sessions.as_slice().len() as u32,
-        },
-    };
-    let schedule = member(alloc, &events, "schedule", value)?;
+    let schedule = read_schedule(alloc, value, need, sessions.as_slice().len() as u32)?;
     Ok(Document {
         pool,
         now,
+        programs,
         sessions,
         schedule,
     })

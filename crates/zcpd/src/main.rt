@@ -1,12 +1,15 @@
 //! `zcpd`: the administrative core of one pool.
 #![tactic(auto)]
 
+mod check;
 mod create;
 mod document;
+mod load_error;
 mod offline;
 mod pool;
 mod replay;
 mod status;
+mod words;
 
 pub use offline::offline;
 pub use status::Status;

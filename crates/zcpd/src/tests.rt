@@ -2,6 +2,10 @@
 
 use super::*;
 use crate::document::DocError;
+use crate::load_error::load_error_text;
+use lua_lexer::LexError;
+use lua_parser::ParseError;
+use lua_scope::LoadError;
 use std::test::Fail;
 use zc_io::{MemSink, MemSource, SureSink, SureSource};
 
@@ -102,6 +106,35 @@ const EARLY: &str =
 /// No member `now`.
 const NO_TIME: &str = r#"{"pool":"rpool","setup":[],"programs":{},"sessions":[],"schedule":[]}"#;
 
+/// No member `schedule`, which `check` doesn't need.
+const NO_SCHEDULE: &str = r#"{"pool":"rpool","now":0,"setup":[],"programs":{},"sessions":[]}"#;
+
+/// A schedule of the wrong shape, which `check` refuses too.
+const NULL_SCHEDULE: &str =
+    r#"{"pool":"rpool","now":0,"setup":[],"programs":{},"sessions":[],"schedule":null}"#;
+
+/// A member that no document has.
+const OTHER_MEMBER: &str =
+    r#"{"pool":"rpool","now":0,"setup":[],"programs":{},"sessions":[],"users":[]}"#;
+
+/// A program that is no text.
+const NO_TEXT: &str =
+    r#"{"pool":"rpool","now":0,"setup":[],"programs":{"p":1},"sessions":[],"schedule":[]}"#;
+
+/// The bytes of a program don't matter to a replay.
+const WITH_PROGRAMS: &str =
+    r#"{"pool":"rpool","now":0,"setup":[],"programs":{"q":"\u0000\u00e9","p":"return 1.5"},"sessions":[],"schedule":[]}"#;
+
+const NO_PROGRAMS_OUTPUT: &str = "{\"programs\":{},\"records\":1}\n";
+
+/// Texts of one kind of refusal each, and one that loads.
+const PROGRAMS: &str =
+    r#"{"pool":"rpool","now":0,"setup":[],"programs":{"a":"return 1.5","b":"return 9223372036854775808","c":"return return","d":"do local x","e":"goto l","f":"break","g":"function f() return ... end","h":"goto l local x ::l::","i":"goto l local x ::l:: x = 1"},"sessions":[]}"#;
+
+const PROGRAMS_OUTPUT: &str =
+    r#"{"programs":{"a":"the text does not load: NotWhole at 7","b":"the text does not load: TooBig at 7","c":"the text does not load: Unexpected at 7","d":"the text does not load: EndOfText at 10","e":"the text does not load: NoLabel at 1","f":"the text does not load: BreakOutside at 1","g":"the text does not load: VarargOutside at 1","h":null,"i":"the text does not load: JumpsIntoLocal at 1"},"records":1}
+"#;
+
 fn words(alloc: Global, words: &[&str]) -> Result<Vec<String>, Fail> {
     let mut owned = Vec::new(alloc);
     for word in words {
@@ -110,9 +143,9 @@ fn words(alloc: Global, words: &[&str]) -> Result<Vec<String>, Fail> {
     Ok(owned)
 }
 
-/// How a replay of the document ends, and what it wrote.
-fn replay(alloc: Global, document: &str) -> Result<(Status, Vec<u8>), Fail> {
-    let words = words(alloc, &["replay"])?;
+/// How the command ends on the document, and what it wrote.
+fn run(alloc: Global, command: &str, document: &str) -> Result<(Status, Vec<u8>), Fail> {
+    let words = words(alloc, &[command])?;
     let mut source = SureSource::new(document.as_bytes().to_vec(alloc)?);
     let mut sink = SureSink::new(alloc, ROOM)?;
     let status = offline(alloc, words.as_slice(), &mut source, &mut sink);
@@ -124,13 +157,14 @@ fn replays(rt: HostRuntime) -> Result<(), Fail> {
     let alloc = rt.alloc();
     for (document, output) in [
         (EMPTY, EMPTY_OUTPUT),
+        (WITH_PROGRAMS, EMPTY_OUTPUT),
         (CREATE, CREATE_OUTPUT),
         (NO_PARENT, NO_PARENT_OUTPUT),
         (TWO_GROUPS, TWO_GROUPS_OUTPUT),
         (ENQUEUES_LATE, ENQUEUES_LATE_OUTPUT),
         (SIXTEEN, SIXTEEN_OUTPUT),
     ] {
-        let (status, written) = replay(alloc, document)?;
+        let (status, written) = run(alloc, "replay", document)?;
         assert_eq!(rt; status, Status::Ok);
         assert!(rt; written.as_slice() == output.as_bytes(), "{document}");
     }
@@ -147,7 +181,7 @@ fn stops_anywhere(rt: HostRuntime) -> Result<(), Fail> {
             r#"{{"pool":"rpool","now":0,"setup":[],"programs":{{}},"sessions":[[{{"name":"rpool/a","op":"create"}}],[{{"name":"rpool/a","op":"create"}}]],"schedule":[{schedule}]}}"#
         )?;
         let journal = format!(in alloc; r#"{{"journal":[{schedule}],"replies":"#)?;
-        let (status, written) = replay(alloc, document.as_str())?;
+        let (status, written) = run(alloc, "replay", document.as_str())?;
         assert_eq!(rt; status, Status::Ok);
         assert!(rt; written.starts_with(journal.as_bytes()), "{document}");
         if done == RACE.len() {
@@ -168,18 +202,60 @@ fn refuses(rt: HostRuntime) -> Result<(), Fail> {
         (NO_SUCH_SESSION, Status::BadDocument(DocError::NotBuilt)),
         (SEVENTEEN, Status::BadDocument(DocError::NotBuilt)),
         (NO_TIME, Status::BadDocument(DocError::NotBuilt)),
+        (NO_SCHEDULE, Status::BadDocument(DocError::NotBuilt)),
+        (NO_TEXT, Status::BadDocument(DocError::NotBuilt)),
         ("", Status::BadDocument(DocError::NotBuilt)),
     ] {
-        let (status, written) = replay(alloc, document)?;
+        let (status, written) = run(alloc, "replay", document)?;
         assert_eq!(rt; status, wanted);
         assert!(rt; written.is_empty(), "{document}");
     }
     Ok(())
 }
 
+/// The texts of the programs are loaded, and the schedule may be missing.
+#[test]
+fn checks(rt: HostRuntime) -> Result<(), Fail> {
+    let alloc = rt.alloc();
+    for (document, wanted, output) in [
+        (PROGRAMS, Status::Ok, PROGRAMS_OUTPUT),
+        (NO_SCHEDULE, Status::Ok, NO_PROGRAMS_OUTPUT),
+        (CREATE, Status::Ok, NO_PROGRAMS_OUTPUT),
+        (NULL_SCHEDULE, Status::BadDocument(DocError::NotBuilt), ""),
+        (OTHER_MEMBER, Status::BadDocument(DocError::NotBuilt), ""),
+        (NO_TEXT, Status::BadDocument(DocError::NotBuilt), ""),
+        (NO_TIME, Status::BadDocument(DocError::NotBuilt), ""),
+    ] {
+        let (status, written) = run(alloc, "check", document)?;
+        assert_eq!(rt; status, wanted);
+        assert!(rt; written.as_slice() == output.as_bytes(), "{document}");
+    }
+    Ok(())
+}
+
+#[test]
+fn tells_why_a_text_does_not_load(rt: HostRuntime) -> Result<(), Fail> {
+    let alloc = rt.alloc();
+    for (error, told) in [
+        (LoadError::TextTooLong(1_048_577), "TextTooLong at 1048577"),
+        (LoadError::Lex(LexError::OpenString(7)), "OpenString at 7"),
+        (LoadError::Parse(ParseError::TooDeep(200)), "TooDeep at 200"),
+        (LoadError::Parse(ParseError::EndOfText), "EndOfText at 10"),
+        (
+            LoadError::TwoLabels(4_294_967_295),
+            "TwoLabels at 4294967295",
+        ),
+    ] {
+        let text = load_error_text(alloc, 10, error)?;
+        let wanted = format!(in alloc; "the text does not load: {told}")?;
+        assert_eq!(rt; text.as_str(), wanted.as_str());
+    }
+    Ok(())
+}
+
 /// Other words are refused, and the source keeps its bytes.
 #[test]
-fn knows_one_word(rt: HostRuntime) -> Result<(), Fail> {
+fn knows_its_words(rt: HostRuntime) -> Result<(), Fail> {
     let alloc = rt.alloc();
     let unknown = words(alloc, &["replay", "now"])?;
     let known = words(alloc, &["replay"])?;

@@ -4,40 +4,41 @@ use Rattle.std.proofs.lemmas.Str.{is_utf8-from_IsUtf8, IsUtf8-from_is_utf8}
 use Rattle.std.specs.Str.{IsUtf8, is_utf8}
 use Rattle.serde_json.specs.Data.{Data}
 use Rattle.serde_json.specs.Read.{read}
+use Rattle.zcpd.specs.declared.document.Need.{Need}
 use Rattle.zcpd.specs.Reading.{◌>>=◌, Gives}
 use Rattle.zcpd.specs.Document.{document_of, document_at, data_of, most_bytes}
 use Rattle.zcpd.proofs.Documents.{read-facts, read-pool, read-calls}
 use Rattle.zcpd.proofs.document.read_document.Goals as goal
 
-short : (bytes : List ℕ) → length bytes ≤ most_bytes → document_of bytes ≡ (data_of bytes >>= document_at)
+short : (n : Need) (bytes : List ℕ) → length bytes ≤ most_bytes → document_of n bytes ≡ (data_of bytes >>= document_at n)
 unfolding document_of
-short bytes le = ap (λ b. cond b (data_of bytes >>= document_at) None) (le-leb (length bytes) most_bytes le)
+short n bytes le = ap (λ b. cond b (data_of bytes >>= document_at n) None) (le-leb (length bytes) most_bytes le)
 
-read-ok : (bytes : List ℕ) (d : Data) → length bytes ≤ most_bytes → IsUtf8 bytes → read bytes ≡ Some d → document_of bytes ≡ document_at d
-read-ok bytes d le utf8 is = short bytes le ∙ ap (λ b. cond b (read bytes) None >>= document_at) (is_utf8-from_IsUtf8 bytes utf8) ∙ ap (λ (o : Option Data). o >>= document_at) is
+read-ok : (n : Need) (bytes : List ℕ) (d : Data) → length bytes ≤ most_bytes → IsUtf8 bytes → read bytes ≡ Some d → document_of n bytes ≡ document_at n d
+read-ok n bytes d le utf8 is = short n bytes le ∙ ap (λ b. cond b (read bytes) None >>= document_at n) (is_utf8-from_IsUtf8 bytes utf8) ∙ ap (λ (o : Option Data). o >>= document_at n) is
 
-read-none : (bytes : List ℕ) → length bytes ≤ most_bytes → (IsUtf8 bytes → read bytes ≡ None) → document_of bytes ≡ None
-read-none bytes le none = short bytes le ∙ elim (cases_Bool (is_utf8 bytes)) [
-  | inl text ↦ ap (λ b. cond b (read bytes) None >>= document_at) text ∙ ap (λ (o : Option Data). o >>= document_at) (none (IsUtf8-from_is_utf8 bytes text))
-  | inr other ↦ ap (λ b. cond b (read bytes) None >>= document_at) other
+read-none : (n : Need) (bytes : List ℕ) → length bytes ≤ most_bytes → (IsUtf8 bytes → read bytes ≡ None) → document_of n bytes ≡ None
+read-none n bytes le none = short n bytes le ∙ elim (cases_Bool (is_utf8 bytes)) [
+  | inl text ↦ ap (λ b. cond b (read bytes) None >>= document_at n) text ∙ ap (λ (o : Option Data). o >>= document_at n) (none (IsUtf8-from_is_utf8 bytes text))
+  | inr other ↦ ap (λ b. cond b (read bytes) None >>= document_at n) other
 ]
 
 pub returns-in-Ok-clause-document : goal.returns-in-Ok-clause-document
 returns-in-Ok-clause-document c =
     let a = c.in-Ok.ensures in
-    subst (Gives c.read_value.result) (sym (read-ok c.args.bytes.now _ c.requires a.ok.0 a.ok.1)) c.read_value.ensures
+    subst (Gives c.read_value.result) (sym (read-ok c.args.need c.args.bytes.now _ c.requires a.ok.0 a.ok.1)) c.read_value.ensures.read
 
 pub returns-in-Ok-clause-pool : goal.returns-in-Ok-clause-pool
 returns-in-Ok-clause-pool c =
     let a = c.in-Ok.ensures in
-    read-pool c.read_value.result (read-facts c.args.bytes.now c.read_value.result (subst (Gives c.read_value.result) (sym (read-ok c.args.bytes.now _ c.requires a.ok.0 a.ok.1)) c.read_value.ensures))
+    read-pool c.read_value.result (read-facts c.args.need c.args.bytes.now c.read_value.result (subst (Gives c.read_value.result) (sym (read-ok c.args.need c.args.bytes.now _ c.requires a.ok.0 a.ok.1)) c.read_value.ensures.read))
 
 pub returns-in-Ok-clause-calls : goal.returns-in-Ok-clause-calls
 returns-in-Ok-clause-calls c =
     let a = c.in-Ok.ensures in
-    read-calls c.read_value.result (read-facts c.args.bytes.now c.read_value.result (subst (Gives c.read_value.result) (sym (read-ok c.args.bytes.now _ c.requires a.ok.0 a.ok.1)) c.read_value.ensures))
+    read-calls c.read_value.result (read-facts c.args.need c.args.bytes.now c.read_value.result (subst (Gives c.read_value.result) (sym (read-ok c.args.need c.args.bytes.now _ c.requires a.ok.0 a.ok.1)) c.read_value.ensures.read))
 
 pub returns-in-Err-2-clause-document : goal.returns-in-Err-2-clause-document
 returns-in-Err-2-clause-document c =
     let a = c.in-Err.ensures in
-    read-none c.args.bytes.now c.requires (a.err (λ m. false≢true (c.if-is_memory.ensures.1 m)))
+    read-none c.args.need c.args.bytes.now c.requires (a.err (λ m. false≢true (c.if-is_memory.ensures.1 m)))

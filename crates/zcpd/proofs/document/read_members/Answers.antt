@@ -5,8 +5,8 @@ use Rattle.zcpd.specs.Document.{call_at, most_calls, most_sessions}
 use Rattle.zcpd.proofs.Values.{within-length}
 use Rattle.zcpd.proofs.document.read_members.Goals as goal
 
-pub overflow_cast-events : goal.overflow_cast-events
-overflow_cast-events c =
+pub overflow_cast-as_slice : goal.overflow_cast-as_slice
+overflow_cast-as_slice c =
     let few : length c.in_ok-sessions.sessions ≤ most_sessions = within-length most_sessions (array_within most_calls (call_at c.in_ok-pool.pool)) (codes "sessions") (view c.args.value.now) c.in_ok-sessions.sessions c.in_ok-sessions.ensures in
     let same : length c.as_slice.result.now ≡ length c.in_ok-sessions.sessions = ap length c.as_slice.ensures in
     omega arith

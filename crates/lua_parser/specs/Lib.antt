@@ -1,0 +1,5 @@
+pub mod Depth
+pub mod Shown
+pub mod Gave
+pub mod Follows
+pub mod Parsing

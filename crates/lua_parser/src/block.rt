@@ -1,0 +1,224 @@
+//! The end of a block (Lua 5.2 manual, 3.3.1).
+
+ghost use Rattle.std.specs.Prelude.{◌≡◌, ◌<◌, ◌≤◌, ◌∷◌, [], ℕ, suc, true, false, length, Some, None, IfOk, OnOk};
+ghost use Rattle.lua_ast.specs.Decode.{PartsBelow, node_tree, cases_of};
+ghost use Rattle.lua_grammar.specs.Pushdown.{end_block, block_of, InThen, InElse};
+ghost use Rattle.lua_parser.specs.Shown.{tree_in, stack_in, begun_in, frame_in, place, BegunBelow, CasesBelow, FrameBelow};
+ghost use Rattle.lua_parser.specs.Gave.{Gave, ended, after_cases, mark_of};
+
+use crate::frame::{Begun, Frame};
+use crate::parser::Parser;
+use crate::refusal::Refusal;
+use crate::state::State;
+use lua_ast::{Ids, Node, NodeId};
+use lua_lexer::TokenKind;
+
+impl Parser {
+    /// A block ends.
+    pub fn end_block(&mut self, block: Begun, kind: Option<TokenKind>) -> Result<State, Refusal>
+        requires { BegunBelow (length self.old.nodes) block }
+        ensures gave { Gave
+            (end_block (stack_in self.old) (block_of (begun_in self.old.nodes block)) (mark_of kind) (place true 0 []))
+            (end_block (stack_in self.old) (block_of (begun_in self.old.nodes block)) (mark_of kind) (place false 0 []))
+            result self.new }
+    {
+        let root = self.block(block)?;
+        match self.pop() {
+            Some(frame) => self.close_block(frame, root, kind),
+            None => match kind {
+                None => Ok(State::Done { root }),
+                Some(_) => Err(Refusal::Unexpected),
+            },
+        }
+    }
+
+    /// The block of what was begun last ends.
+    fn close_block(
+        &mut self,
+        frame: Frame,
+        body: NodeId,
+        kind: Option<TokenKind>,
+    ) -> Result<State, Refusal>
+        requires frame { FrameBelow (length self.old.nodes) frame }
+        requires body { body < length self.old.nodes }
+        ensures gave { Gave
+            (end_block (frame_in self.old.nodes frame ∷ stack_in self.old) (tree_in self.old.nodes body) (mark_of kind) (place true 0 []))
+            (end_block (frame_in self.old.nodes frame ∷ stack_in self.old) (tree_in self.old.nodes body) (mark_of kind) (place false 0 []))
+            result self.new }
+    {
+        match frame {
+            Frame::InDo { line, block } => self.close_statement(
+                block,
+                Node::Do { block: body },
+                line,
+                kind,
+            ),
+            Frame::InWhile { line, test, block } => {
+                self.close_statement(block, Node::While { test, block: body }, line, kind)
+            }
+            Frame::InRepeat { line, block } => match kind {
+                Some(TokenKind::Until) => {
+                    self.push(Frame::InUntil { line, body, block })?;
+                    Ok(State::Need { limit: 0 })
+                }
+                _ => Err(Refusal::Unexpected),
+            },
+            Frame::InThen {
+                line,
+                tests,
+                blocks,
+                test,
+                block,
+            } => self.close_then(line, tests, blocks, test, block, body, kind),
+            Frame::InElse {
+                line,
+                tests,
+                blocks,
+                block,
+            } => {
+                let node = Node::If {
+                    tests,
+                    blocks,
+                    otherwise: Some(body),
+                };
+                self.close_statement(block, node, line, kind)
+            }
+            Frame::InNumFor {
+                line,
+                name,
+                first,
+                last,
+                step,
+                block,
+            } => {
+                let node = Node::NumFor {
+                    name,
+                    first,
+                    limit: last,
+                    step,
+                    block: body,
+                };
+                self.close_statement(block, node, line, kind)
+            }
+            Frame::InGenFor {
+                line,
+                names,
+                exps,
+                block,
+            } => {
+                let node = Node::GenFor {
+                    names,
+                    exps,
+                    block: body,
+                };
+                self.close_statement(block, node, line, kind)
+            }
+            Frame::InFunction {
+                head,
+                params,
+                vararg,
+            } => match kind {
+                Some(TokenKind::End) => Ok(self.function(head, params, vararg, body)?),
+                _ => Err(Refusal::Unexpected),
+            },
+            _ => Err(Refusal::Unexpected),
+        }
+    }
+
+    /// `end` behind a statement with a block.
+    fn close_statement(
+        &mut self,
+        block: Begun,
+        node: Node,
+        line: u32,
+        kind: Option<TokenKind>,
+    ) -> Result<State, Refusal>
+        requires parts { PartsBelow (length self.old.nodes) node }
+        requires block { BegunBelow (length self.old.nodes) block }
+        ensures gave { Gave
+            (ended (begun_in self.old.nodes block) (node_tree (tree_in self.old.nodes) 0 line node) (stack_in self.old) (mark_of kind))
+            (ended (begun_in self.old.nodes block) (node_tree (tree_in self.old.nodes) 0 line node) (stack_in self.old) (mark_of kind))
+            result self.new }
+    {
+        match kind {
+            Some(TokenKind::End) => {
+                let block = self.statement(block, node, line)?;
+                Ok(State::StatNext { block })
+            }
+            _ => Err(Refusal::Unexpected),
+        }
+    }
+
+    /// `end`, `elseif` or `else` behind a block of an `if`.
+    #[tactic(auto, using(lua_ast::proofs::PlacesBelow::below_push, crate::proofs::Lists::length_push))]
+    fn close_then(
+        &mut self,
+        line: u32,
+        mut tests: Ids,
+        mut blocks: Ids,
+        test: NodeId,
+        block: Begun,
+        body: NodeId,
+        kind: Option<TokenKind>,
+    ) -> Result<State, Refusal>
+        requires cases { CasesBelow (length self.old.nodes) tests blocks }
+        requires test { test < length self.old.nodes }
+        requires block { BegunBelow (length self.old.nodes) block }
+        requires body { body < length self.old.nodes }
+        ensures gave { Gave
+            (end_block (InThen line (cases_of (tree_in self.old.nodes) tests blocks) (tree_in self.old.nodes test) (begun_in self.old.nodes block) ∷ stack_in self.old)
+            (tree_in self.old.nodes body) (mark_of kind) (place true 0 []))
+            (end_block (InThen line (cases_of (tree_in self.old.nodes) tests blocks) (tree_in self.old.nodes test) (begun_in self.old.nodes block) ∷ stack_in self.old)
+            (tree_in self.old.nodes body) (mark_of kind) (place false 0 []))
+            result self.new }
+    {
+        tests.push(test)?;
+        blocks.push(body)?;
+        self.close_cases(line, tests, blocks, block, kind)
+    }
+
+    /// `end`, `elseif` or `else` behind these cases of an `if`.
+    fn close_cases(
+        &mut self,
+        line: u32,
+        tests: Ids,
+        blocks: Ids,
+        block: Begun,
+        kind: Option<TokenKind>,
+    ) -> Result<State, Refusal>
+        requires cases { CasesBelow (length self.old.nodes) tests blocks }
+        requires block { BegunBelow (length self.old.nodes) block }
+        ensures gave { Gave
+            (after_cases line (cases_of (tree_in self.old.nodes) tests blocks) (begun_in self.old.nodes block) (stack_in self.old) (mark_of kind) (place true 0 []))
+            (after_cases line (cases_of (tree_in self.old.nodes) tests blocks) (begun_in self.old.nodes block) (stack_in self.old) (mark_of kind) (place false 0 []))
+            result self.new }
+    {
+        match kind {
+            Some(TokenKind::End) => {
+                let node = Node::If {
+                    tests,
+                    blocks,
+                    otherwise: None,
+                };
+                let block = self.statement(block, node, line)?;
+                Ok(State::StatNext { block })
+            }
+            Some(TokenKind::Elseif) => {
+                self.push(Frame::InIfTest {
+                    line,
+                    tests,
+                    blocks,
+                    block,
+                })?;
+                Ok(State::Need { limit: 0 })
+            }
+            Some(TokenKind::Else) => self.enter_block(Frame::InElse {
+                line,
+                tests,
+                blocks,
+                block,
+            }),
+            _ => Err(Refusal::Unexpected),
+        }
+    }
+}

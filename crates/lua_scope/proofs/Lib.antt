@@ -1,0 +1,14 @@
+mod CasesDone
+mod Examples
+mod NodeWalks
+mod NodeSizes
+mod Scanning
+mod Blocks
+mod Stepping
+pub mod Reversed
+mod Resolving
+mod Runs
+mod Rising
+pub mod Plain
+pub mod PlainRefusals
+pub mod Loading

@@ -1,0 +1,11 @@
+pub mod Labels
+pub mod History
+pub mod Tasks
+pub mod Walking
+pub mod Scanned
+pub mod Scope
+pub mod Variables
+pub mod Refusals
+pub mod Resolved
+pub mod OfChunk
+pub mod Loads

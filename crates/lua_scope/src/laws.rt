@@ -1,0 +1,20 @@
+//! Laws of what names mean. Each function does nothing, and its contract is the law.
+
+ghost use Rattle.std.specs.Prelude.{◌≡◌, ℕ, List, []};
+ghost use Rattle.std.specs.List.Sorted.{IsStrictlyIncreasing};
+ghost use Rattle.lua_scope.specs.declared.event.Event.{Event as EventOf};
+ghost use Rattle.lua_ast.specs.Tree.{Tree};
+ghost use Rattle.lua_ast.specs.Numbers.{without_numbers};
+ghost use Rattle.lua_scope.specs.History.{history};
+ghost use Rattle.lua_scope.specs.Refusals.{first_refusal};
+ghost use Rattle.lua_scope.specs.Variables.{captured_by};
+
+/// The variables that a function captures are told rising, each once.
+pub fn captured_variables_rise()
+    ensures { (h : List EventOf) (f : ℕ) → IsStrictlyIncreasing (captured_by h f) }
+{}
+
+/// A text is refused by its tree alone: the numbers of the nodes don't matter.
+pub fn numbers_refuse_nothing()
+    ensures { (t : Tree) → first_refusal (history [] (without_numbers t)) ≡ first_refusal (history [] t) }
+{}

@@ -1,0 +1,29 @@
+//! Which variable a name means, which label a goto means, and the refusals of a Lua 5.2 text that
+//! has the grammar but breaks these rules (manual, 3.3.4, 3.3.5, 3.4.10, 3.4.11 and 3.5).
+#![tactic(auto)]
+
+mod block;
+mod capture;
+mod event;
+mod frame;
+pub mod laws;
+mod load_error;
+mod node_tasks;
+mod numbers;
+mod parsed;
+mod place;
+mod refusal;
+mod resolver;
+mod run;
+mod scope;
+mod scoped;
+mod task;
+#[cfg(test)]
+mod tests;
+mod walk;
+
+pub use load_error::LoadError;
+pub use parsed::{MOST_TEXT, Parsed, load};
+pub use place::Place;
+pub use refusal::{Refusal, ScopeError};
+pub use scoped::ScopedChunk;

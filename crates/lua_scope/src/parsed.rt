@@ -1,0 +1,142 @@
+//! Texts that load.
+
+ghost use Rattle.std.specs.Prelude.{◌≡◌, ◌<◌, ◌≤◌, length, IfOk, IfErr};
+ghost use Rattle.lua_lexer.specs.Lexes.{Lexes};
+ghost use Rattle.lua_ast.specs.Tree.{Tree};
+ghost use Rattle.lua_parser.specs.Parsing.{tree_of};
+ghost use Rattle.lua_scope.specs.Loads.{most_text, HasTokensOf, Loads, LoadsAs, IsLoadFailure};
+ghost use Rattle.lua_scope.specs.OfChunk.{history_of};
+ghost use Rattle.lua_scope.specs.Scope.{declared, first_variable};
+ghost use Rattle.lua_scope.specs.Variables.{place_of, is_captured as is_captured_in, captured_by};
+
+use crate::load_error::{LoadError, of_lex, of_parse, of_scope};
+use crate::place::Place;
+use crate::scoped::ScopedChunk;
+use lua_ast::{Chunk, NodeId};
+use lua_lexer::{Token, lex};
+use lua_parser::parse;
+use std::alloc::Global;
+use std::marker::Model;
+
+/// The greatest number of bytes of a text.
+pub const MOST_TEXT: usize = 1_048_576;
+
+/// A text that loads, with its nodes and what its names mean.
+#[derive(Debug, Drop)]
+pub struct Parsed {
+    text: Vec<u8>,
+    scoped: ScopedChunk,
+}
+
+impl Model for Parsed {
+    ghost use Rattle.lua_scope.specs.Loads.{Program, LoadsAs};
+    ghost use Rattle.lua_parser.specs.Parsing.{tree_of};
+
+    ghost Value = { Program };
+
+    ghost view = { λ p. record { text = p.text.items; chunk = p.scoped } };
+
+    ghost invariant = { λ p. LoadsAs p.text.items (tree_of p.scoped) };
+}
+
+/// The tokens of a text.
+fn tokens_of(alloc: Global, text: &[u8]) -> Result<Vec<Token>, LoadError>
+    requires { length text.now ≤ most_text }
+    ensures tokens { IfOk result (λ tokens. Lexes text.now tokens.items) }
+    ensures fails { IfErr result (λ error. IsLoadFailure text.now error) }
+{
+    match lex(alloc, text) {
+        Ok(tokens) => Ok(tokens),
+        Err(error) => Err(of_lex(error)),
+    }
+}
+
+/// The chunk of a text.
+fn chunk_of(alloc: Global, text: &[u8]) -> Result<Chunk, LoadError>
+    requires { length text.now ≤ most_text }
+    ensures chunk { IfOk result (λ chunk. HasTokensOf text.now (tree_of chunk)) }
+    ensures fails { IfErr result (λ error. IsLoadFailure text.now error) }
+{
+    let tokens = tokens_of(alloc, text)?;
+    match parse(alloc, text, tokens.as_slice()) {
+        Ok(chunk) => Ok(chunk),
+        Err(error) => Err(of_parse(error)),
+    }
+}
+
+/// Reads the text of a channel program: its tokens, its tree, and what its names and labels mean.
+/// It is refused exactly where it does not load, with the first refusal.
+pub fn load(alloc: Global, text: Vec<u8>) -> Result<Parsed, LoadError>
+    ensures text { IfOk result (λ parsed. parsed.text ≡ text.items) }
+    ensures tree { IfOk result (λ parsed. LoadsAs text.items (tree_of parsed.chunk)) }
+    ensures loads { IfOk result (λ _. Loads text.items) }
+    ensures fails { IfErr result (λ error. IsLoadFailure text.items error) }
+{
+    let bytes = text.as_slice();
+    if bytes.len() > MOST_TEXT {
+        return Err(LoadError::TextTooLong(bytes.len() as u64));
+    }
+    let chunk = chunk_of(alloc, bytes)?;
+    match ScopedChunk::new(alloc, chunk) {
+        Ok(scoped) => Ok(Parsed { text, scoped }),
+        Err(error) => Err(of_scope(error)),
+    }
+}
+
+impl Parsed {
+    /// The text.
+    pub fn text(&self) -> &[u8]
+        ensures text { result.now ≡ self.now.text }
+        ensures loads { LoadsAs self.now.text (tree_of self.now.chunk) }
+    {
+        self.text.as_slice()
+    }
+
+    /// The nodes of the text's tree.
+    pub fn chunk(&self) -> &Chunk
+        ensures chunk { result.now ≡ self.now.chunk }
+        ensures loads { LoadsAs self.now.text (tree_of self.now.chunk) }
+    {
+        self.scoped.chunk()
+    }
+
+    /// How many variables the text names.
+    pub fn variables(&self) -> u32
+        ensures { result ≡ declared (history_of self.now.chunk) }
+    {
+        self.scoped.variables()
+    }
+
+    /// What a Name node stands for. For any other node the answer is `Global`.
+    pub fn place(&self, id: NodeId) -> Place
+        requires { id < length self.now.chunk.nodes }
+        ensures { result ≡ place_of (history_of self.now.chunk) id }
+    {
+        self.scoped.place(id)
+    }
+
+    /// The variables that a Function node captures: those named before its own that it or a
+    /// function in it uses, rising.
+    pub fn captured(&self, id: NodeId) -> &[u32]
+        requires { id < length self.now.chunk.nodes }
+        ensures { result.now ≡ captured_by (history_of self.now.chunk) id }
+    {
+        self.scoped.captured(id)
+    }
+
+    /// The number of the first variable that a node names; 0 for a node that names none. The others
+    /// follow it in order.
+    pub fn first_variable(&self, id: NodeId) -> u32
+        requires { id < length self.now.chunk.nodes }
+        ensures { result ≡ first_variable (history_of self.now.chunk) id }
+    {
+        self.scoped.first_variable(id)
+    }
+
+    /// Whether some function captures the variable.
+    pub fn is_captured(&self, variable: u32) -> bool
+        ensures { result ≡ is_captured_in (history_of self.now.chunk) variable }
+    {
+        self.scoped.is_captured(variable)
+    }
+}

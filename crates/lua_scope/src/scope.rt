@@ -1,0 +1,185 @@
+//! What is in scope and what is open at a place of a text.
+
+ghost use Rattle.std.specs.Prelude.{◌≡◌, ◌+◌, ◌<◌, ◌^◌, [], ℕ, length, reverse, IfOk};
+ghost use Rattle.lua_scope.specs.Scope.{opened, closed, entered};
+ghost use Rattle.lua_scope.specs.Variables.{variable_named};
+ghost use Rattle.lua_scope.specs.Refusals.{target, jump as jump_of, in_loop as in_loop_of, has_varargs as has_varargs_of, refusal_in};
+
+use crate::event::{Event, Label, Opening};
+use crate::frame::{Frame, Variable};
+use crate::refusal::Refusal;
+use crate::task::copy_name;
+use lua_ast::{AstText, AstTexts};
+use std::alloc::{AllocError, Global};
+use std::marker::Model;
+
+/// The variables in scope and what is open, each in the order of the text.
+#[derive(Debug, Drop)]
+pub(crate) struct Scope {
+    variables: Vec<Variable>,
+    frames: Vec<Frame>,
+}
+
+impl Model for Scope {
+    ghost use Rattle.lua_scope.specs.Scope.{ScopeState};
+
+    ghost Value = { ScopeState };
+
+    ghost view = { λ scope. record { variables = scope.variables.items; frames = scope.frames.items } };
+}
+
+impl Scope {
+    /// Nothing is in scope or open, which takes no memory.
+    pub(crate) fn new(alloc: Global) -> Scope
+        ensures variables { result.variables ≡ [] }
+        ensures frames { result.frames ≡ [] }
+    {
+        Scope {
+            variables: Vec::new(alloc),
+            frames: Vec::new(alloc),
+        }
+    }
+
+    pub(crate) fn open(&mut self, opening: Opening) -> Result<(), AllocError>
+        ensures { IfOk result (λ _. self.new ≡ opened opening self.old) }
+    {
+        let begins = self.variables.len();
+        self.frames.push(Frame { opening, begins })?;
+        Ok(())
+    }
+
+    pub(crate) fn close(&mut self)
+        ensures { self.new ≡ closed self.old }
+    {
+        if let Some(frame) = self.frames.pop() {
+            self.variables.truncate(frame.begins);
+        }
+    }
+
+    /// Variables of these names come into scope, numbered from `first`.
+    pub(crate) fn enter(
+        &mut self,
+        alloc: Global,
+        first: u32,
+        names: &AstTexts,
+    ) -> Result<(), AllocError>
+        requires { first + length names.now < 2 ^ 32 }
+        ensures { IfOk result (λ _. self.new ≡ entered first names.now self.old) }
+    {
+        let mut number = first;
+        for name in names.as_slice() {
+            let name = copy_name(alloc, name)?;
+            self.variables.push(Variable { name, number })?;
+            number += 1;
+        }
+        Ok(())
+    }
+
+    /// What is open, the innermost last.
+    pub(crate) fn frames(&self) -> &[Frame]
+        ensures { result.now ≡ self.now.frames }
+    {
+        self.frames.as_slice()
+    }
+
+    /// The variable that a name means.
+    pub(crate) fn variable(&self, name: &AstText) -> Option<u32>
+        ensures { result ≡ variable_named name.now self.now.variables }
+    {
+        let found = self
+            .variables
+            .iter()
+            .rev()
+            .find(|v| v.name.as_slice() == name.as_slice());
+        found.map(|variable| variable.number)
+    }
+
+    /// What the event is refused for at this place, if it is.
+    pub(crate) fn refusal(&self, event: &Event) -> Option<Refusal>
+        ensures { result ≡ refusal_in self.now event.now }
+    {
+        match event {
+            Event::Goto { line, label } => self.jump(*line, label),
+            Event::SecondLabel { line } => Some(Refusal::TwoLabels { line: *line }),
+            Event::Break { line } => {
+                if self.in_loop() {
+                    None
+                } else {
+                    Some(Refusal::BreakOutside { line: *line })
+                }
+            }
+            Event::Vararg { line } => {
+                if self.has_varargs() {
+                    None
+                } else {
+                    Some(Refusal::VarargOutside { line: *line })
+                }
+            }
+            _ => None,
+        }
+    }
+
+    /// What a goto on this line to this label is refused for: the innermost block of the function
+    /// that has the label decides.
+    #[tactic(auto, using(crate::proofs::Reversed::reverse_push))]
+    fn jump(&self, line: u32, label: &AstText) -> Option<Refusal>
+        ensures { result ≡ jump_of line label.now (length self.now.variables) (reverse self.now.frames) }
+    {
+        let mut here = self.variables.len();
+        for frame in self.frames.iter().rev() {
+            match &frame.opening {
+                Opening::Block { labels, inside } => {
+                    if let Some(there) = find_label(labels.as_slice(), *inside, label) {
+                        let into_local = here.saturating_sub(frame.begins) < there;
+                        return into_local.then_some(Refusal::JumpsIntoLocal { line });
+                    }
+                }
+                Opening::Loop => {}
+                Opening::Function { .. } => return Some(Refusal::NoLabel { line }),
+            }
+            here = frame.begins;
+        }
+        Some(Refusal::NoLabel { line })
+    }
+
+    /// Whether a loop of the function is open.
+    #[tactic(auto, using(crate::proofs::Reversed::reverse_push))]
+    fn in_loop(&self) -> bool
+        ensures { result ≡ in_loop_of (reverse self.now.frames) }
+    {
+        for frame in self.frames.iter().rev() {
+            match &frame.opening {
+                Opening::Block { .. } => {}
+                Opening::Loop => return true,
+                Opening::Function { .. } => return false,
+            }
+        }
+        false
+    }
+
+    /// Whether the function is a vararg function. The chunk is one.
+    #[tactic(auto, using(crate::proofs::Reversed::reverse_push))]
+    fn has_varargs(&self) -> bool
+        ensures { result ≡ has_varargs_of (reverse self.now.frames) }
+    {
+        for frame in self.frames.iter().rev() {
+            if let Opening::Function { vararg, .. } = &frame.opening {
+                return *vararg;
+            }
+        }
+        true
+    }
+}
+
+/// How many of its block's locals are in scope at the first label of this name. The first `inside`
+/// labels lie inside the block's locals.
+fn find_label(labels: &[Label], inside: usize, name: &AstText) -> Option<usize>
+    ensures { result ≡ target name.now inside labels.now }
+{
+    for (i, label) in labels.iter().enumerate() {
+        if label.name.as_slice() == name.as_slice() {
+            return Some(if i < inside { label.locals } else { 0 });
+        }
+    }
+    None
+}
