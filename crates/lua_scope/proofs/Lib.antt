@@ -12,3 +12,4 @@ mod Rising
 pub mod Plain
 pub mod PlainRefusals
 pub mod Loading
+mod OneAnswer

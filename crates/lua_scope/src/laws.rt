@@ -6,7 +6,9 @@ ghost use Rattle.lua_scope.specs.declared.event.Event.{Event as EventOf};
 ghost use Rattle.lua_ast.specs.Tree.{Tree};
 ghost use Rattle.lua_ast.specs.Numbers.{without_numbers};
 ghost use Rattle.lua_scope.specs.History.{history};
+ghost use Rattle.lua_scope.specs.Loads.{LoadsAs, Loads, LoadFails};
 ghost use Rattle.lua_scope.specs.Refusals.{first_refusal};
+ghost use Rattle.lua_scope.specs.declared.load_error.LoadError.{LoadError as ErrorOf};
 ghost use Rattle.lua_scope.specs.Variables.{captured_by};
 
 /// The variables that a function captures are told rising, each once.
@@ -18,3 +20,13 @@ pub fn captured_variables_rise()
 pub fn numbers_refuse_nothing()
     ensures { (t : Tree) → first_refusal (history [] (without_numbers t)) ≡ first_refusal (history [] t) }
 {}
+
+/// A text loads as one tree or has one refusal, and not both.
+pub fn one_answer()
+    ensures trees { (text : List ℕ) (s t : Tree) → LoadsAs text s → LoadsAs text t → s ≡ t }
+    ensures apart { (text : List ℕ) (e : ErrorOf) → Loads text → LoadFails text e → ⊥ }
+    ensures refusals { (text : List ℕ) (d e : ErrorOf) → LoadFails text d → LoadFails text e → d ≡ e }
+{
+    lua_lexer::laws::one_reading();
+    lua_grammar::one_reading();
+}
