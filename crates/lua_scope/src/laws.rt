@@ -21,7 +21,7 @@ pub fn numbers_refuse_nothing()
     ensures { (t : Tree) → first_refusal (history [] (without_numbers t)) ≡ first_refusal (history [] t) }
 {}
 
-/// A text loads as one tree or has one refusal, and not both.
+/// A text loads as one tree at most and has one refusal at most, and never both.
 pub fn one_answer()
     ensures trees { (text : List ℕ) (s t : Tree) → LoadsAs text s → LoadsAs text t → s ≡ t }
     ensures apart { (text : List ℕ) (e : ErrorOf) → Loads text → LoadFails text e → ⊥ }

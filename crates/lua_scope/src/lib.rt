@@ -1,5 +1,5 @@
-//! Which variable a name means, which label a goto means, and the refusals of a Lua 5.2 text that
-//! has the grammar but breaks these rules (manual, 3.3.4, 3.3.5, 3.4.10, 3.4.11 and 3.5).
+//! Which texts load, what their names mean, and the refusals of a Lua 5.2 text that has the grammar
+//! but breaks the rules on labels, `break` and `...` (manual, 3.3.4, 3.4.10 and 3.5).
 #![tactic(auto)]
 
 mod block;

@@ -124,8 +124,9 @@ impl Parsed {
         self.scoped.captured(id)
     }
 
-    /// The number of the first variable that a node names; 0 for a node that names none. The others
-    /// follow it in order.
+    /// The number of the first variable that a node names; the others follow it in order. For a
+    /// function without parameters it is how many were named before it, for a node that declares
+    /// nothing 0.
     pub fn first_variable(&self, id: NodeId) -> u32
         requires { id < length self.now.chunk.nodes }
         ensures { result ≡ first_variable (history_of self.now.chunk) id }
