@@ -61,18 +61,10 @@ impl Parser {
     {
         match kind {
             TokenKind::Dot => Ok(State::NameNext {
-                naming: Naming::ForFunctionField {
-                    line,
-                    object: path,
-                    block,
-                },
+                naming: Naming::ForFunctionField { line, path, block },
             }),
             TokenKind::Colon => Ok(State::NameNext {
-                naming: Naming::ForFunctionMethod {
-                    line,
-                    object: path,
-                    block,
-                },
+                naming: Naming::ForFunctionMethod { line, path, block },
             }),
             other => self.body_next(
                 Head::Assigned {

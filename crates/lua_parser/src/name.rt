@@ -1,6 +1,6 @@
 //! What goes on at a name.
 
-ghost use Rattle.std.specs.Prelude.{◌≡◌, ◌<◌, ◌≤◌, ◌∷◌, [], ℕ, true, false, length, Some, None, IfOk, OnOk};
+ghost use Rattle.std.specs.Prelude.{◌≡◌, ◌<◌, ◌≤◌, ◌∷◌, ◌++◌, [], ℕ, true, false, length, Some, None, IfOk, OnOk};
 ghost use Rattle.lua_grammar.specs.Signs.{token};
 ghost use Rattle.lua_grammar.specs.Grammar.{field_of};
 ghost use Rattle.lua_grammar.specs.Pushdown.{after_name, name_next, ForFunction};
@@ -12,9 +12,17 @@ use crate::frame::{Begun, Callee, Head};
 use crate::parser::Parser;
 use crate::refusal::Refusal;
 use crate::state::{Naming, State};
-use lua_ast::{AstText, Literal, Node, NodeId};
+use lua_ast::{AstText, AstTexts, Literal, Node, NodeId};
 use lua_lexer::TokenKind;
 use std::alloc::AllocError;
+
+/// These names and one more.
+fn with_name(mut names: AstTexts, name: AstText) -> Result<AstTexts, AllocError>
+    ensures { IfOk result (λ all. all ≡ names ++ name ∷ []) }
+{
+    names.push(name)?;
+    Ok(names)
+}
 
 impl Parser {
     /// `object.name`, where the name stands on this line.
@@ -93,15 +101,20 @@ impl Parser {
     }
 
     /// The name came, and stands on this line.
-    fn after_name(&mut self, naming: Naming, line: u32, name: AstText) -> Result<State, AllocError>
+    fn after_name(
+        &mut self,
+        naming: Naming,
+        name_line: u32,
+        name: AstText,
+    ) -> Result<State, AllocError>
         requires { NamingBelow (length self.old.nodes) naming }
         ensures state { IfOk result (λ s. state_in self.new.nodes (stack_in self.new) s
-            ≡ after_name (naming_in self.old.nodes naming) (stack_in self.old) (place true line name)) }
+            ≡ after_name (naming_in self.old.nodes naming) (stack_in self.old) (place true name_line name)) }
         ensures below { IfOk result (λ s. StateBelow (length self.new.nodes) s) }
     {
         match naming {
             Naming::ForField { limit, object } => {
-                let node = self.field(object, line, name)?;
+                let node = self.field(object, name_line, name)?;
                 Ok(State::Have { limit, node })
             }
             Naming::ForMethod { limit, object } => {
@@ -114,27 +127,19 @@ impl Parser {
                 Ok(State::StatNext { block })
             }
             Naming::ForVariable { line, block } => Ok(State::LoopName { line, name, block }),
-            Naming::ForVariables {
-                line,
-                mut names,
-                block,
-            } => {
-                names.push(name)?;
+            Naming::ForVariables { line, names, block } => {
+                let names = with_name(names, name)?;
                 Ok(State::LoopNames { line, names, block })
             }
-            Naming::ForFunction { line: own, block } => Ok(self.after_first_name(
-                own, block, line, name,
-            )?),
-            Naming::ForFunctionField {
-                line: own,
-                object,
-                block,
-            } => { Ok(self.after_path_name(own, object, false, block, line, name)?) }
-            Naming::ForFunctionMethod {
-                line: own,
-                object,
-                block,
-            } => { Ok(self.after_path_name(own, object, true, block, line, name)?) }
+            Naming::ForFunction { line, block } => {
+                Ok(self.after_first_name(line, block, name_line, name)?)
+            }
+            Naming::ForFunctionField { line, path, block } => {
+                Ok(self.after_path_name(line, path, false, block, name_line, name)?)
+            }
+            Naming::ForFunctionMethod { line, path, block } => {
+                Ok(self.after_path_name(line, path, true, block, name_line, name)?)
+            }
             Naming::ForLocalFunction { line, own, block } => {
                 let head = Head::Local {
                     line,
@@ -144,12 +149,8 @@ impl Parser {
                 };
                 Ok(State::BodyNext { head })
             }
-            Naming::ForLocal {
-                line,
-                mut names,
-                block,
-            } => {
-                names.push(name)?;
+            Naming::ForLocal { line, names, block } => {
+                let names = with_name(names, name)?;
                 Ok(State::LocalNames { line, names, block })
             }
         }

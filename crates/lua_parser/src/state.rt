@@ -37,12 +37,12 @@ pub enum Naming {
     },
     ForFunctionField {
         line: u32,
-        object: NodeId,
+        path: NodeId,
         block: Begun,
     },
     ForFunctionMethod {
         line: u32,
-        object: NodeId,
+        path: NodeId,
         block: Begun,
     },
     ForLocalFunction {
