@@ -1,11 +1,23 @@
 //! Symbols.
 
-ghost use Rattle.std.specs.Prelude.{◌≡◌, ◌<◌, ◌≤◌, ◌+◌, IfSome, length, slice_index};
+ghost use Rattle.std.specs.Prelude.{◌≡◌, ◌<◌, ◌≤◌, ◌+◌, ◌==◌, if◌then◌else◌, Some, IfSome, length, slice_index};
 ghost use Rattle.lua_lexer.specs.Scan.{symbol, symbol_by, dots, IsWithin};
 
 use crate::TokenKind;
 use crate::bytes::byte_at;
 use crate::piece::{Fault, Piece};
+
+/// A symbol of two bytes where the next byte is its second, else the one of the first byte alone.
+fn one_or_two(next: u8, second: u8, two: TokenKind, one: TokenKind) -> Option<(TokenKind, usize)>
+    ensures exact { result ≡ (if next == second then Some (two, 2) else Some (one, 1)) }
+    ensures within { IfSome result (λ t. (0 < t.1) × (t.1 ≤ 2) × (t.1 ≡ 2 → next ≡ second)) }
+{
+    if next == second {
+        Some((two, 2))
+    } else {
+        Some((one, 1))
+    }
+}
 
 /// A symbol that begins with neither `[` nor `-` nor `.`, and its length, by its first byte and the next.
 #[tactic(auto, unfolding(crate::specs::Scan::symbol))]
@@ -32,26 +44,10 @@ fn symbol(b: u8, next: u8) -> Option<(TokenKind, usize)>
         } else {
             None
         },
-        b'=' => if next == b'=' {
-            Some((TokenKind::Equal, 2))
-        } else {
-            Some((TokenKind::Assign, 1))
-        },
-        b'<' => if next == b'=' {
-            Some((TokenKind::LessEqual, 2))
-        } else {
-            Some((TokenKind::Less, 1))
-        },
-        b'>' => if next == b'=' {
-            Some((TokenKind::GreaterEqual, 2))
-        } else {
-            Some((TokenKind::Greater, 1))
-        },
-        b':' => if next == b':' {
-            Some((TokenKind::DoubleColon, 2))
-        } else {
-            Some((TokenKind::Colon, 1))
-        },
+        b'=' => one_or_two(next, b'=', TokenKind::Equal, TokenKind::Assign),
+        b'<' => one_or_two(next, b'=', TokenKind::LessEqual, TokenKind::Less),
+        b'>' => one_or_two(next, b'=', TokenKind::GreaterEqual, TokenKind::Greater),
+        b':' => one_or_two(next, b':', TokenKind::DoubleColon, TokenKind::Colon),
         _ => None,
     }
 }

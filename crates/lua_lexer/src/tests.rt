@@ -214,12 +214,10 @@ fn numerals_and_escapes_that_are_refused(rt: HostRuntime) {
 }
 
 #[test]
-fn tokens_one_behind_another(rt: HostRuntime) {
+fn dots_one_behind_another(rt: HostRuntime) {
     let alloc = rt.alloc();
-    let cases: [(&[u8], &[(TokenKind, usize, usize, u32)]); 20] = [
+    let cases: [(&[u8], &[(TokenKind, usize, usize, u32)]); 5] = [
         (b"", &[]),
-        (b"--", &[]),
-        (b"-- a b", &[]),
         (
             b"a.b",
             &[
@@ -244,6 +242,16 @@ fn tokens_one_behind_another(rt: HostRuntime) {
             b"..5",
             &[(TokenKind::Concat, 0, 2, 1), (TokenKind::Numeral, 2, 3, 1)],
         ),
+    ];
+    for (text, wanted) in cases {
+        reads(&rt, alloc, text, wanted);
+    }
+}
+
+#[test]
+fn the_longest_symbol_comes_first(rt: HostRuntime) {
+    let alloc = rt.alloc();
+    let cases: [(&[u8], &[(TokenKind, usize, usize, u32)]); 6] = [
         (
             b"[=",
             &[
@@ -277,6 +285,26 @@ fn tokens_one_behind_another(rt: HostRuntime) {
                 (TokenKind::Colon, 2, 3, 1),
             ],
         ),
+        (
+            b"a-1",
+            &[
+                (TokenKind::Name, 0, 1, 1),
+                (TokenKind::Minus, 1, 2, 1),
+                (TokenKind::Numeral, 2, 3, 1),
+            ],
+        ),
+    ];
+    for (text, wanted) in cases {
+        reads(&rt, alloc, text, wanted);
+    }
+}
+
+#[test]
+fn comments_and_lines(rt: HostRuntime) {
+    let alloc = rt.alloc();
+    let cases: [(&[u8], &[(TokenKind, usize, usize, u32)]); 9] = [
+        (b"--", &[]),
+        (b"-- a b", &[]),
         (b"--[[a]]x", &[(TokenKind::Name, 7, 8, 1)]),
         (b"--[==[ ]]\n]=] ]==]x", &[(TokenKind::Name, 18, 19, 2)]),
         (b"--[=x\ny", &[(TokenKind::Name, 6, 7, 2)]),
@@ -290,14 +318,6 @@ fn tokens_one_behind_another(rt: HostRuntime) {
             &[(TokenKind::Text, 0, 6, 1), (TokenKind::Name, 7, 8, 3)],
         ),
         (b"\r\n\x0b\x0c\t x", &[(TokenKind::Name, 6, 7, 2)]),
-        (
-            b"a-1",
-            &[
-                (TokenKind::Name, 0, 1, 1),
-                (TokenKind::Minus, 1, 2, 1),
-                (TokenKind::Numeral, 2, 3, 1),
-            ],
-        ),
     ];
     for (text, wanted) in cases {
         reads(&rt, alloc, text, wanted);
