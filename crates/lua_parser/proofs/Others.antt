@@ -10,7 +10,14 @@ use Rattle.lua_lexer.specs.declared.token.TokenKind.TheVariants as kind
 use Rattle.lua_grammar.specs.Signs.{Mark, Place, token, end}
 use Rattle.lua_grammar.specs.Pushdown as pushdown
 use Rattle.lua_grammar.specs.Kinds as kinds
-use Rattle.lua_parser.specs.Shown.{place, operator_in}
+use Rattle.lua_ast.specs.declared.node.LinedNode.{LinedNode}
+use Rattle.lua_parser.specs.declared.frame.OpenStatement.{OpenStatement}
+use Rattle.lua_parser.specs.declared.frame.OpenStatement.TheVariants as statement
+use Rattle.lua_parser.specs.declared.frame.OpenHeader.{OpenHeader}
+use Rattle.lua_parser.specs.declared.frame.OpenHeader.TheVariants as header
+use Rattle.lua_parser.specs.declared.frame.OpenBlock.{OpenBlock}
+use Rattle.lua_parser.specs.declared.frame.OpenBlock.TheVariants as block
+use Rattle.lua_parser.specs.Shown.{place, operator_in, statement_in, header_in, block_in}
 use Rattle.lua_parser.specs.Gave.{next_block}
 
 pub next_block_other : (b : pushdown.Begun) (k : List pushdown.Frame) (x : TokenKind) (i : Place) → (x ≡ kind.Do → ⊥) → (x ≡ kind.While → ⊥) → (x ≡ kind.Repeat → ⊥) → (x ≡ kind.If → ⊥) → next_block b k (token x) i ≡ pushdown.end_block k (pushdown.block_of b) (token x) i
@@ -87,3 +94,31 @@ pub field_name_other : (u : pushdown.Purpose) (l : ℕ) (fs : tree.Fields) (own 
     pushdown.field_name u l fs own n k (token x) i ≡ pushdown.follow (pushdown.InItem u l fs ∷ k) 0 (tree.Name 0 own n) (token x) i
 field_name_other u l fs own n k kind.Assign i h = absurd (h refl)
 field_name_other u l fs own n k _ i h = refl
+
+-- No expression is over in a block, and no block is in a statement or a header.
+
+pub close_in_block : (ns : List LinedNode) (g : OpenBlock) (t : tree.Tree) (k : List pushdown.Frame) (m : Mark) (i : Place) → pushdown.close (block_in ns g) t k m i ≡ None
+close_in_block ns (block.Do l b) t k m i = refl
+close_in_block ns (block.While l u b) t k m i = refl
+close_in_block ns (block.Repeat l b) t k m i = refl
+close_in_block ns (block.Then l us bs u b) t k m i = refl
+close_in_block ns (block.Else l us bs b) t k m i = refl
+close_in_block ns (block.NumericFor f) t k m i = refl
+close_in_block ns (block.GenericFor f) t k m i = refl
+close_in_block ns (block.Function h params more) t k m i = refl
+
+pub end_in_statement : (ns : List LinedNode) (s : OpenStatement) (t : tree.Tree) (k : List pushdown.Frame) (m : Mark) (i : Place) → pushdown.end_block (statement_in ns s ∷ k) t m i ≡ None
+end_in_statement ns (statement.Local l names es b) t k m i = refl
+end_in_statement ns (statement.Prefix b) t k m i = refl
+end_in_statement ns (statement.Target l ts b) t k m i = refl
+end_in_statement ns (statement.Assign l ts es b) t k m i = refl
+end_in_statement ns (statement.Return l es b) t k m i = refl
+end_in_statement ns (statement.Until l u b) t k m i = refl
+
+pub end_in_header : (ns : List LinedNode) (g : OpenHeader) (t : tree.Tree) (k : List pushdown.Frame) (m : Mark) (i : Place) → pushdown.end_block (header_in ns g ∷ k) t m i ≡ None
+end_in_header ns (header.While l b) t k m i = refl
+end_in_header ns (header.If l us bs b) t k m i = refl
+end_in_header ns (header.First l n b) t k m i = refl
+end_in_header ns (header.Last l n a b) t k m i = refl
+end_in_header ns (header.Step l n a e b) t k m i = refl
+end_in_header ns (header.Iterator f) t k m i = refl

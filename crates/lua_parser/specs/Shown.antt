@@ -15,6 +15,13 @@ use Rattle.lua_parser.specs.declared.frame.Callee.{Callee}
 use Rattle.lua_parser.specs.declared.frame.Callee.TheVariants as callee
 use Rattle.lua_parser.specs.declared.frame.Purpose.{Purpose}
 use Rattle.lua_parser.specs.declared.frame.Purpose.TheVariants as purpose
+use Rattle.lua_parser.specs.declared.frame.BegunTable.{BegunTable}
+use Rattle.lua_parser.specs.declared.frame.OpenStatement.{OpenStatement}
+use Rattle.lua_parser.specs.declared.frame.OpenStatement.TheVariants as statement
+use Rattle.lua_parser.specs.declared.frame.OpenHeader.{OpenHeader}
+use Rattle.lua_parser.specs.declared.frame.OpenHeader.TheVariants as header
+use Rattle.lua_parser.specs.declared.frame.OpenBlock.{OpenBlock}
+use Rattle.lua_parser.specs.declared.frame.OpenBlock.TheVariants as block
 use Rattle.lua_parser.specs.declared.frame.Head.{Head}
 use Rattle.lua_parser.specs.declared.frame.Head.TheVariants as head
 use Rattle.lua_parser.specs.declared.frame.Frame.{Frame}
@@ -57,36 +64,45 @@ head_in ns (head.Anonymous p l) = pushdown.anonymous p l
 head_in ns (head.Assigned l t m b) = pushdown.assigned l (tree_in ns t) (given m) (begun_in ns b)
 head_in ns (head.Local l own n b) = pushdown.local_named l own n (begun_in ns b)
 
+abbrev pub statement_in : List LinedNode → OpenStatement → pushdown.Frame
+statement_in ns (statement.Local l names es b) = pushdown.InLocal l names (list_of (tree_in ns) es) (begun_in ns b)
+statement_in ns (statement.Prefix b) = pushdown.InStat (begun_in ns b)
+statement_in ns (statement.Target l ts b) = pushdown.InTargets l (list_of (tree_in ns) ts) (begun_in ns b)
+statement_in ns (statement.Assign l ts es b) = pushdown.InAssign l (list_of (tree_in ns) ts) (list_of (tree_in ns) es) (begun_in ns b)
+statement_in ns (statement.Return l es b) = pushdown.InReturn l (list_of (tree_in ns) es) (begun_in ns b)
+statement_in ns (statement.Until l t b) = pushdown.InUntil l (tree_in ns t) (begun_in ns b)
+
+abbrev pub header_in : List LinedNode → OpenHeader → pushdown.Frame
+header_in ns (header.While l b) = pushdown.InWhileTest l (begun_in ns b)
+header_in ns (header.If l ts bs b) = pushdown.InIfTest l (cases_of (tree_in ns) ts bs) (begun_in ns b)
+header_in ns (header.First l n b) = pushdown.InFirst l n (begun_in ns b)
+header_in ns (header.Last l n a b) = pushdown.InLimit l n (tree_in ns a) (begun_in ns b)
+header_in ns (header.Step l n a e b) = pushdown.InStep l n (tree_in ns a) (tree_in ns e) (begun_in ns b)
+header_in ns (header.Iterator f) = pushdown.InIterator f.line f.names (list_of (tree_in ns) f.exps) (begun_in ns f.block)
+
+abbrev pub block_in : List LinedNode → OpenBlock → pushdown.Frame
+block_in ns (block.Do l b) = pushdown.InDo l (begun_in ns b)
+block_in ns (block.While l t b) = pushdown.InWhile l (tree_in ns t) (begun_in ns b)
+block_in ns (block.Repeat l b) = pushdown.InRepeat l (begun_in ns b)
+block_in ns (block.Then l ts bs t b) = pushdown.InThen l (cases_of (tree_in ns) ts bs) (tree_in ns t) (begun_in ns b)
+block_in ns (block.Else l ts bs b) = pushdown.InElse l (cases_of (tree_in ns) ts bs) (begun_in ns b)
+block_in ns (block.NumericFor f) = pushdown.InNumFor f.line f.name (tree_in ns f.first) (tree_in ns f.last) (maybe_of (tree_in ns) f.step) (begun_in ns f.block)
+block_in ns (block.GenericFor f) = pushdown.InGenFor f.line f.names (list_of (tree_in ns) f.exps) (begun_in ns f.block)
+block_in ns (block.Function h params more) = pushdown.InFunction (head_in ns h) params.items more
+
 abbrev pub frame_in : List LinedNode → Frame → pushdown.Frame
 frame_in ns (frame.InParen q l) = pushdown.InParen q l
 frame_in ns (frame.InUnary q l op) = pushdown.InUnary q l op
 frame_in ns (frame.InBinary q op t) = pushdown.InBinary q (operator_in op) (tree_in ns t)
 frame_in ns (frame.InIndex q o) = pushdown.InIndex q (tree_in ns o)
 frame_in ns (frame.InArgs q c es) = pushdown.InArgs q (callee_in ns c) (list_of (tree_in ns) es)
-frame_in ns (frame.InItem u l fs) = pushdown.InItem (purpose_in ns u) l (fields_of (tree_in ns) fs)
-frame_in ns (frame.InNamed u l fs n) = pushdown.InNamed (purpose_in ns u) l (fields_of (tree_in ns) fs) n
-frame_in ns (frame.InKey u l fs) = pushdown.InKey (purpose_in ns u) l (fields_of (tree_in ns) fs)
-frame_in ns (frame.InKeyed u l fs e) = pushdown.InKeyed (purpose_in ns u) l (fields_of (tree_in ns) fs) (tree_in ns e)
-frame_in ns (frame.InLocal l names es b) = pushdown.InLocal l names (list_of (tree_in ns) es) (begun_in ns b)
-frame_in ns (frame.InStat b) = pushdown.InStat (begun_in ns b)
-frame_in ns (frame.InTargets l ts b) = pushdown.InTargets l (list_of (tree_in ns) ts) (begun_in ns b)
-frame_in ns (frame.InAssign l ts es b) = pushdown.InAssign l (list_of (tree_in ns) ts) (list_of (tree_in ns) es) (begun_in ns b)
-frame_in ns (frame.InReturn l es b) = pushdown.InReturn l (list_of (tree_in ns) es) (begun_in ns b)
-frame_in ns (frame.InWhileTest l b) = pushdown.InWhileTest l (begun_in ns b)
-frame_in ns (frame.InIfTest l ts bs b) = pushdown.InIfTest l (cases_of (tree_in ns) ts bs) (begun_in ns b)
-frame_in ns (frame.InUntil l t b) = pushdown.InUntil l (tree_in ns t) (begun_in ns b)
-frame_in ns (frame.InFirst l n b) = pushdown.InFirst l n (begun_in ns b)
-frame_in ns (frame.InLimit l n a b) = pushdown.InLimit l n (tree_in ns a) (begun_in ns b)
-frame_in ns (frame.InStep l n a e b) = pushdown.InStep l n (tree_in ns a) (tree_in ns e) (begun_in ns b)
-frame_in ns (frame.InIterator l names es b) = pushdown.InIterator l names (list_of (tree_in ns) es) (begun_in ns b)
-frame_in ns (frame.InDo l b) = pushdown.InDo l (begun_in ns b)
-frame_in ns (frame.InWhile l t b) = pushdown.InWhile l (tree_in ns t) (begun_in ns b)
-frame_in ns (frame.InRepeat l b) = pushdown.InRepeat l (begun_in ns b)
-frame_in ns (frame.InThen l ts bs t b) = pushdown.InThen l (cases_of (tree_in ns) ts bs) (tree_in ns t) (begun_in ns b)
-frame_in ns (frame.InElse l ts bs b) = pushdown.InElse l (cases_of (tree_in ns) ts bs) (begun_in ns b)
-frame_in ns (frame.InNumFor l n a e s b) = pushdown.InNumFor l n (tree_in ns a) (tree_in ns e) (maybe_of (tree_in ns) s) (begun_in ns b)
-frame_in ns (frame.InGenFor l names es b) = pushdown.InGenFor l names (list_of (tree_in ns) es) (begun_in ns b)
-frame_in ns (frame.InFunction h params more) = pushdown.InFunction (head_in ns h) params.items more
+frame_in ns (frame.InItem u) = pushdown.InItem (purpose_in ns u.purpose) u.line (fields_of (tree_in ns) u.fields)
+frame_in ns (frame.InNamed u n) = pushdown.InNamed (purpose_in ns u.purpose) u.line (fields_of (tree_in ns) u.fields) n
+frame_in ns (frame.InKey u) = pushdown.InKey (purpose_in ns u.purpose) u.line (fields_of (tree_in ns) u.fields)
+frame_in ns (frame.InKeyed u e) = pushdown.InKeyed (purpose_in ns u.purpose) u.line (fields_of (tree_in ns) u.fields) (tree_in ns e)
+frame_in ns (frame.InStatement s) = statement_in ns s
+frame_in ns (frame.InHeader h) = header_in ns h
+frame_in ns (frame.InBlock b) = block_in ns b
 
 unfoldable pub stack_in : Held → List pushdown.Frame
 stack_in h = map (frame_in h.nodes) h.frames
@@ -114,9 +130,9 @@ state_in ns k (state.Have p t) = pushdown.Have p (tree_in ns t) k
 state_in ns k (state.NameNext n) = pushdown.NameNext (naming_in ns n) k
 state_in ns k (state.ArgsNext p c) = pushdown.ArgsNext p (callee_in ns c) k
 state_in ns k (state.ArgsOpen p c) = pushdown.ArgsOpen p (callee_in ns c) k
-state_in ns k (state.FieldNext u l fs) = pushdown.FieldNext (purpose_in ns u) l (fields_of (tree_in ns) fs) k
-state_in ns k (state.FieldName u l fs own n) = pushdown.FieldName (purpose_in ns u) l (fields_of (tree_in ns) fs) own n k
-state_in ns k (state.KeyEnd u l fs e) = pushdown.KeyEnd (purpose_in ns u) l (fields_of (tree_in ns) fs) (tree_in ns e) k
+state_in ns k (state.FieldNext u) = pushdown.FieldNext (purpose_in ns u.purpose) u.line (fields_of (tree_in ns) u.fields) k
+state_in ns k (state.FieldName u own n) = pushdown.FieldName (purpose_in ns u.purpose) u.line (fields_of (tree_in ns) u.fields) own n k
+state_in ns k (state.KeyEnd u e) = pushdown.KeyEnd (purpose_in ns u.purpose) u.line (fields_of (tree_in ns) u.fields) (tree_in ns e) k
 state_in ns k state.BlockNext = pushdown.BlockNext k
 state_in ns k (state.StatNext b) = pushdown.StatNext (begun_in ns b) k
 state_in ns k (state.LabelEnd l n b) = pushdown.LabelEnd l n (begun_in ns b) k
@@ -156,36 +172,48 @@ HeadBelow n (head.Local l own name b) = BegunBelow n b
 abbrev pub CasesBelow : ℕ → List ℕ → List ℕ → Type 0
 CasesBelow n ts bs = AllBelow n ts × AllBelow n bs × (length ts ≡ length bs)
 
+abbrev pub TableBelow : ℕ → BegunTable → Type 0
+TableBelow n u = PurposeBelow n u.purpose × FieldsBelow n u.fields
+
+abbrev pub StatementBelow : ℕ → OpenStatement → Type 0
+StatementBelow n (statement.Local l names es b) = AllBelow n es × BegunBelow n b
+StatementBelow n (statement.Prefix b) = BegunBelow n b
+StatementBelow n (statement.Target l ts b) = AllBelow n ts × BegunBelow n b
+StatementBelow n (statement.Assign l ts es b) = AllBelow n ts × AllBelow n es × BegunBelow n b
+StatementBelow n (statement.Return l es b) = AllBelow n es × BegunBelow n b
+StatementBelow n (statement.Until l t b) = (t < n) × BegunBelow n b
+
+abbrev pub HeaderBelow : ℕ → OpenHeader → Type 0
+HeaderBelow n (header.While l b) = BegunBelow n b
+HeaderBelow n (header.If l ts bs b) = CasesBelow n ts bs × BegunBelow n b
+HeaderBelow n (header.First l name b) = BegunBelow n b
+HeaderBelow n (header.Last l name a b) = (a < n) × BegunBelow n b
+HeaderBelow n (header.Step l name a e b) = (a < n) × (e < n) × BegunBelow n b
+HeaderBelow n (header.Iterator f) = AllBelow n f.exps × BegunBelow n f.block
+
+abbrev pub BlockBelow : ℕ → OpenBlock → Type 0
+BlockBelow n (block.Do l b) = BegunBelow n b
+BlockBelow n (block.While l t b) = (t < n) × BegunBelow n b
+BlockBelow n (block.Repeat l b) = BegunBelow n b
+BlockBelow n (block.Then l ts bs t b) = CasesBelow n ts bs × (t < n) × BegunBelow n b
+BlockBelow n (block.Else l ts bs b) = CasesBelow n ts bs × BegunBelow n b
+BlockBelow n (block.NumericFor f) = (f.first < n) × (f.last < n) × MaybeBelow n f.step × BegunBelow n f.block
+BlockBelow n (block.GenericFor f) = AllBelow n f.exps × BegunBelow n f.block
+BlockBelow n (block.Function h params more) = HeadBelow n h
+
 abbrev pub FrameBelow : ℕ → Frame → Type 0
 FrameBelow n (frame.InParen q l) = Unit {0}
 FrameBelow n (frame.InUnary q l op) = Unit {0}
 FrameBelow n (frame.InBinary q op t) = t < n
 FrameBelow n (frame.InIndex q o) = o < n
 FrameBelow n (frame.InArgs q c es) = CalleeBelow n c × AllBelow n es
-FrameBelow n (frame.InItem u l fs) = PurposeBelow n u × FieldsBelow n fs
-FrameBelow n (frame.InNamed u l fs name) = PurposeBelow n u × FieldsBelow n fs
-FrameBelow n (frame.InKey u l fs) = PurposeBelow n u × FieldsBelow n fs
-FrameBelow n (frame.InKeyed u l fs e) = PurposeBelow n u × FieldsBelow n fs × (e < n)
-FrameBelow n (frame.InLocal l names es b) = AllBelow n es × BegunBelow n b
-FrameBelow n (frame.InStat b) = BegunBelow n b
-FrameBelow n (frame.InTargets l ts b) = AllBelow n ts × BegunBelow n b
-FrameBelow n (frame.InAssign l ts es b) = AllBelow n ts × AllBelow n es × BegunBelow n b
-FrameBelow n (frame.InReturn l es b) = AllBelow n es × BegunBelow n b
-FrameBelow n (frame.InWhileTest l b) = BegunBelow n b
-FrameBelow n (frame.InIfTest l ts bs b) = CasesBelow n ts bs × BegunBelow n b
-FrameBelow n (frame.InUntil l t b) = (t < n) × BegunBelow n b
-FrameBelow n (frame.InFirst l name b) = BegunBelow n b
-FrameBelow n (frame.InLimit l name a b) = (a < n) × BegunBelow n b
-FrameBelow n (frame.InStep l name a e b) = (a < n) × (e < n) × BegunBelow n b
-FrameBelow n (frame.InIterator l names es b) = AllBelow n es × BegunBelow n b
-FrameBelow n (frame.InDo l b) = BegunBelow n b
-FrameBelow n (frame.InWhile l t b) = (t < n) × BegunBelow n b
-FrameBelow n (frame.InRepeat l b) = BegunBelow n b
-FrameBelow n (frame.InThen l ts bs t b) = CasesBelow n ts bs × (t < n) × BegunBelow n b
-FrameBelow n (frame.InElse l ts bs b) = CasesBelow n ts bs × BegunBelow n b
-FrameBelow n (frame.InNumFor l name a e s b) = (a < n) × (e < n) × MaybeBelow n s × BegunBelow n b
-FrameBelow n (frame.InGenFor l names es b) = AllBelow n es × BegunBelow n b
-FrameBelow n (frame.InFunction h params more) = HeadBelow n h
+FrameBelow n (frame.InItem u) = TableBelow n u
+FrameBelow n (frame.InNamed u name) = TableBelow n u
+FrameBelow n (frame.InKey u) = TableBelow n u
+FrameBelow n (frame.InKeyed u e) = TableBelow n u × (e < n)
+FrameBelow n (frame.InStatement s) = StatementBelow n s
+FrameBelow n (frame.InHeader h) = HeaderBelow n h
+FrameBelow n (frame.InBlock b) = BlockBelow n b
 
 abbrev pub FramesBelow : ℕ → List Frame → Type 0
 FramesBelow n [] = Unit {0}
@@ -210,9 +238,9 @@ StateBelow n (state.Have p t) = t < n
 StateBelow n (state.NameNext name) = NamingBelow n name
 StateBelow n (state.ArgsNext p c) = CalleeBelow n c
 StateBelow n (state.ArgsOpen p c) = CalleeBelow n c
-StateBelow n (state.FieldNext u l fs) = PurposeBelow n u × FieldsBelow n fs
-StateBelow n (state.FieldName u l fs own name) = PurposeBelow n u × FieldsBelow n fs
-StateBelow n (state.KeyEnd u l fs e) = PurposeBelow n u × FieldsBelow n fs × (e < n)
+StateBelow n (state.FieldNext u) = TableBelow n u
+StateBelow n (state.FieldName u own name) = TableBelow n u
+StateBelow n (state.KeyEnd u e) = TableBelow n u × (e < n)
 StateBelow n state.BlockNext = Unit {0}
 StateBelow n (state.StatNext b) = BegunBelow n b
 StateBelow n (state.LabelEnd l name b) = BegunBelow n b

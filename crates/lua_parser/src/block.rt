@@ -1,12 +1,13 @@
-//! The end of a block (Lua 5.2 manual, 3.3.1).
+//! The end of a block (Lua 5.2 manual, 3.3.1, 3.3.4 and 3.3.5).
 
 ghost use Rattle.std.specs.Prelude.{◌≡◌, ◌<◌, ◌≤◌, ◌∷◌, [], ℕ, suc, true, false, length, Some, None, IfOk, OnOk};
 ghost use Rattle.lua_ast.specs.Decode.{PartsBelow, node_tree, cases_of};
-ghost use Rattle.lua_grammar.specs.Pushdown.{end_block, block_of, InThen, InElse};
-ghost use Rattle.lua_parser.specs.Shown.{tree_in, stack_in, begun_in, frame_in, place, BegunBelow, CasesBelow, FrameBelow};
+ghost use Rattle.lua_grammar.specs.Pushdown.{end_block, block_of, InRepeat, InThen, InElse};
+ghost use Rattle.lua_parser.specs.Shown.{tree_in, stack_in, begun_in, block_in, frame_in, place, BegunBelow, CasesBelow, BlockBelow, FrameBelow};
+ghost use Rattle.lua_parser.specs.declared.frame.OpenBlock.TheVariants.{NumericFor as OverNumbers, GenericFor as OverIterators};
 ghost use Rattle.lua_parser.specs.Gave.{Gave, ended, after_cases, mark_of};
 
-use crate::frame::{Begun, Frame};
+use crate::frame::{Begun, Frame, GenericFor, NumericFor, OpenBlock, OpenHeader, OpenStatement};
 use crate::parser::Parser;
 use crate::refusal::Refusal;
 use crate::state::State;
@@ -33,6 +34,7 @@ impl Parser {
     }
 
     /// The block of what was begun last ends.
+    #[tactic(auto, using(crate::proofs::Others::end_in_statement, crate::proofs::Others::end_in_header))]
     fn close_block(
         &mut self,
         frame: Frame,
@@ -47,73 +49,49 @@ impl Parser {
             result self.new }
     {
         match frame {
-            Frame::InDo { line, block } => self.close_statement(
-                block,
-                Node::Do { block: body },
-                line,
-                kind,
-            ),
-            Frame::InWhile { line, test, block } => {
+            Frame::InBlock(outer) => self.close_body(outer, body, kind),
+            _ => Err(Refusal::Unexpected),
+        }
+    }
+
+    /// The block of a statement or of a function ends.
+    fn close_body(
+        &mut self,
+        outer: OpenBlock,
+        body: NodeId,
+        kind: Option<TokenKind>,
+    ) -> Result<State, Refusal>
+        requires outer { BlockBelow (length self.old.nodes) outer }
+        requires body { body < length self.old.nodes }
+        ensures gave { Gave
+            (end_block (block_in self.old.nodes outer ∷ stack_in self.old) (tree_in self.old.nodes body) (mark_of kind) (place true 0 []))
+            (end_block (block_in self.old.nodes outer ∷ stack_in self.old) (tree_in self.old.nodes body) (mark_of kind) (place false 0 []))
+            result self.new }
+    {
+        match outer {
+            OpenBlock::Do { line, block } => {
+                self.close_statement(block, Node::Do { block: body }, line, kind)
+            }
+            OpenBlock::While { line, test, block } => {
                 self.close_statement(block, Node::While { test, block: body }, line, kind)
             }
-            Frame::InRepeat { line, block } => match kind {
-                Some(TokenKind::Until) => {
-                    self.push(Frame::InUntil { line, body, block })?;
-                    Ok(State::Need { limit: 0 })
-                }
-                _ => Err(Refusal::Unexpected),
-            },
-            Frame::InThen {
+            OpenBlock::Repeat { line, block } => self.close_repeat(line, block, body, kind),
+            OpenBlock::Then {
                 line,
                 tests,
                 blocks,
                 test,
                 block,
             } => self.close_then(line, tests, blocks, test, block, body, kind),
-            Frame::InElse {
+            OpenBlock::Else {
                 line,
                 tests,
                 blocks,
                 block,
-            } => {
-                let node = Node::If {
-                    tests,
-                    blocks,
-                    otherwise: Some(body),
-                };
-                self.close_statement(block, node, line, kind)
-            }
-            Frame::InNumFor {
-                line,
-                name,
-                first,
-                last,
-                step,
-                block,
-            } => {
-                let node = Node::NumFor {
-                    name,
-                    first,
-                    limit: last,
-                    step,
-                    block: body,
-                };
-                self.close_statement(block, node, line, kind)
-            }
-            Frame::InGenFor {
-                line,
-                names,
-                exps,
-                block,
-            } => {
-                let node = Node::GenFor {
-                    names,
-                    exps,
-                    block: body,
-                };
-                self.close_statement(block, node, line, kind)
-            }
-            Frame::InFunction {
+            } => self.close_else(line, tests, blocks, block, body, kind),
+            OpenBlock::NumericFor(numeric) => self.close_numeric_for(numeric, body, kind),
+            OpenBlock::GenericFor(generic) => self.close_generic_for(generic, body, kind),
+            OpenBlock::Function {
                 head,
                 params,
                 vararg,
@@ -121,8 +99,119 @@ impl Parser {
                 Some(TokenKind::End) => Ok(self.function(head, params, vararg, body)?),
                 _ => Err(Refusal::Unexpected),
             },
+        }
+    }
+
+    /// `until` behind the block of a `repeat`.
+    fn close_repeat(
+        &mut self,
+        line: u32,
+        block: Begun,
+        body: NodeId,
+        kind: Option<TokenKind>,
+    ) -> Result<State, Refusal>
+        requires block { BegunBelow (length self.old.nodes) block }
+        requires body { body < length self.old.nodes }
+        ensures gave { Gave
+            (end_block (InRepeat line (begun_in self.old.nodes block) ∷ stack_in self.old) (tree_in self.old.nodes body) (mark_of kind) (place true 0 []))
+            (end_block (InRepeat line (begun_in self.old.nodes block) ∷ stack_in self.old) (tree_in self.old.nodes body) (mark_of kind) (place false 0 []))
+            result self.new }
+    {
+        match kind {
+            Some(TokenKind::Until) => {
+                self.push(Frame::InStatement(OpenStatement::Until { line, body, block }))?;
+                Ok(State::Need { limit: 0 })
+            }
             _ => Err(Refusal::Unexpected),
         }
+    }
+
+    /// `end` behind the block of an `else`.
+    fn close_else(
+        &mut self,
+        line: u32,
+        tests: Ids,
+        blocks: Ids,
+        block: Begun,
+        body: NodeId,
+        kind: Option<TokenKind>,
+    ) -> Result<State, Refusal>
+        requires cases { CasesBelow (length self.old.nodes) tests blocks }
+        requires block { BegunBelow (length self.old.nodes) block }
+        requires body { body < length self.old.nodes }
+        ensures gave { Gave
+            (end_block (InElse line (cases_of (tree_in self.old.nodes) tests blocks) (begun_in self.old.nodes block) ∷ stack_in self.old)
+            (tree_in self.old.nodes body) (mark_of kind) (place true 0 []))
+            (end_block (InElse line (cases_of (tree_in self.old.nodes) tests blocks) (begun_in self.old.nodes block) ∷ stack_in self.old)
+            (tree_in self.old.nodes body) (mark_of kind) (place false 0 []))
+            result self.new }
+    {
+        let node = Node::If {
+            tests,
+            blocks,
+            otherwise: Some(body),
+        };
+        self.close_statement(block, node, line, kind)
+    }
+
+    /// `end` behind the block of a `for` over numbers.
+    fn close_numeric_for(
+        &mut self,
+        numeric: NumericFor,
+        body: NodeId,
+        kind: Option<TokenKind>,
+    ) -> Result<State, Refusal>
+        requires numeric { BlockBelow (length self.old.nodes) (OverNumbers numeric) }
+        requires body { body < length self.old.nodes }
+        ensures gave { Gave
+            (end_block (block_in self.old.nodes (OverNumbers numeric) ∷ stack_in self.old) (tree_in self.old.nodes body) (mark_of kind) (place true 0 []))
+            (end_block (block_in self.old.nodes (OverNumbers numeric) ∷ stack_in self.old) (tree_in self.old.nodes body) (mark_of kind) (place false 0 []))
+            result self.new }
+    {
+        let NumericFor {
+            line,
+            name,
+            first,
+            last,
+            step,
+            block,
+        } = numeric;
+        let node = Node::NumFor {
+            name,
+            first,
+            limit: last,
+            step,
+            block: body,
+        };
+        self.close_statement(block, node, line, kind)
+    }
+
+    /// `end` behind the block of a `for` over iterators.
+    fn close_generic_for(
+        &mut self,
+        generic: GenericFor,
+        body: NodeId,
+        kind: Option<TokenKind>,
+    ) -> Result<State, Refusal>
+        requires generic { BlockBelow (length self.old.nodes) (OverIterators generic) }
+        requires body { body < length self.old.nodes }
+        ensures gave { Gave
+            (end_block (block_in self.old.nodes (OverIterators generic) ∷ stack_in self.old) (tree_in self.old.nodes body) (mark_of kind) (place true 0 []))
+            (end_block (block_in self.old.nodes (OverIterators generic) ∷ stack_in self.old) (tree_in self.old.nodes body) (mark_of kind) (place false 0 []))
+            result self.new }
+    {
+        let GenericFor {
+            line,
+            names,
+            exps,
+            block,
+        } = generic;
+        let node = Node::GenFor {
+            names,
+            exps,
+            block: body,
+        };
+        self.close_statement(block, node, line, kind)
     }
 
     /// `end` behind a statement with a block.
@@ -204,15 +293,15 @@ impl Parser {
                 Ok(State::StatNext { block })
             }
             Some(TokenKind::Elseif) => {
-                self.push(Frame::InIfTest {
+                self.push(Frame::InHeader(OpenHeader::If {
                     line,
                     tests,
                     blocks,
                     block,
-                })?;
+                }))?;
                 Ok(State::Need { limit: 0 })
             }
-            Some(TokenKind::Else) => self.enter_block(Frame::InElse {
+            Some(TokenKind::Else) => self.enter_block(OpenBlock::Else {
                 line,
                 tests,
                 blocks,

@@ -2,14 +2,14 @@
 
 ghost use Rattle.std.specs.Prelude.{◌≡◌, ◌<◌, ◌≤◌, ◌∷◌, [], ℕ, suc, true, false, length, Some, None, IfOk, OnOk};
 ghost use Rattle.lua_ast.specs.Tree.{Tree, Table, none, snoc};
-ghost use Rattle.lua_ast.specs.Decode.{list_of, fields_of, AllBelow, FieldsBelow};
+ghost use Rattle.lua_ast.specs.Decode.{list_of, fields_of, AllBelow};
 ghost use Rattle.lua_grammar.specs.Signs.{token};
 ghost use Rattle.lua_lexer.specs.declared.token.TokenKind.TheVariants.{Text};
 ghost use Rattle.lua_grammar.specs.Pushdown.{Have, call_of, args_begin, made, field_done};
-ghost use Rattle.lua_parser.specs.Shown.{tree_in, stack_in, state_in, callee_in, purpose_in, place, CalleeBelow, PurposeBelow, StateBelow};
+ghost use Rattle.lua_parser.specs.Shown.{tree_in, stack_in, state_in, callee_in, purpose_in, place, CalleeBelow, TableBelow, StateBelow};
 ghost use Rattle.lua_parser.specs.Gave.{Gave, IsSmall};
 
-use crate::frame::{Callee, Purpose};
+use crate::frame::{BegunTable, Callee, Purpose};
 use crate::parser::Parser;
 use crate::refusal::Refusal;
 use crate::state::State;
@@ -91,11 +91,14 @@ impl Parser {
     {
         match kind {
             TokenKind::OpenParen => self.deepen(State::ArgsOpen { limit, callee }),
-            TokenKind::OpenBrace => self.deepen(State::FieldNext {
-                purpose: Purpose::Argument { limit, callee },
-                line,
-                fields: Fields::new(self.alloc()),
-            }),
+            TokenKind::OpenBrace => {
+                let table = BegunTable {
+                    purpose: Purpose::Argument { limit, callee },
+                    line,
+                    fields: Fields::new(self.alloc()),
+                };
+                self.deepen(State::FieldNext { table })
+            }
             TokenKind::Text => self.call_with_text(limit, callee, line, slice),
             _ => Err(Refusal::Unexpected),
         }
@@ -103,18 +106,17 @@ impl Parser {
 
     /// A table constructor was read.
     #[tactic(auto, using(crate::proofs::Nodes::below_callee))]
-    pub fn table(
-        &mut self,
-        purpose: Purpose,
-        line: u32,
-        fields: Fields,
-    ) -> Result<State, AllocError>
-        requires purpose { PurposeBelow (length self.old.nodes) purpose }
-        requires fields { FieldsBelow (length self.old.nodes) fields }
+    pub fn table(&mut self, table: BegunTable) -> Result<State, AllocError>
+        requires { TableBelow (length self.old.nodes) table }
         ensures state { IfOk result (λ s. state_in self.new.nodes (stack_in self.new) s
-            ≡ made (purpose_in self.old.nodes purpose) (Table 0 line (fields_of (tree_in self.old.nodes) fields)) (stack_in self.old)) }
+            ≡ made (purpose_in self.old.nodes table.purpose) (Table 0 table.line (fields_of (tree_in self.old.nodes) table.fields)) (stack_in self.old)) }
         ensures below { IfOk result (λ s. StateBelow (length self.new.nodes) s) }
     {
+        let BegunTable {
+            purpose,
+            line,
+            fields,
+        } = table;
         let node = self.add(Node::Table { fields }, line)?;
         match purpose {
             Purpose::Value { limit } => Ok(State::Have { limit, node }),
@@ -123,27 +125,16 @@ impl Parser {
     }
 
     /// A field is over.
-    pub fn field_done(
-        &mut self,
-        purpose: Purpose,
-        line: u32,
-        fields: Fields,
-        kind: TokenKind,
-    ) -> Result<State, Refusal>
-        requires purpose { PurposeBelow (length self.old.nodes) purpose }
-        requires fields { FieldsBelow (length self.old.nodes) fields }
+    pub fn field_done(&mut self, table: BegunTable, kind: TokenKind) -> Result<State, Refusal>
+        requires { TableBelow (length self.old.nodes) table }
         ensures gave { Gave
-            (field_done (purpose_in self.old.nodes purpose) line (fields_of (tree_in self.old.nodes) fields) (stack_in self.old) (token kind))
-            (field_done (purpose_in self.old.nodes purpose) line (fields_of (tree_in self.old.nodes) fields) (stack_in self.old) (token kind))
+            (field_done (purpose_in self.old.nodes table.purpose) table.line (fields_of (tree_in self.old.nodes) table.fields) (stack_in self.old) (token kind))
+            (field_done (purpose_in self.old.nodes table.purpose) table.line (fields_of (tree_in self.old.nodes) table.fields) (stack_in self.old) (token kind))
             result self.new }
     {
         match kind {
-            TokenKind::Comma | TokenKind::Semicolon => Ok(State::FieldNext {
-                purpose,
-                line,
-                fields,
-            }),
-            TokenKind::CloseBrace => Ok(self.table(purpose, line, fields)?),
+            TokenKind::Comma | TokenKind::Semicolon => Ok(State::FieldNext { table }),
+            TokenKind::CloseBrace => Ok(self.table(table)?),
             _ => Err(Refusal::Unexpected),
         }
     }

@@ -1,16 +1,16 @@
 //! What goes on where an expression is over.
 
 ghost use Rattle.std.specs.Prelude.{◌≡◌, ◌<◌, ◌≤◌, ◌∷◌, [], ℕ, suc, true, false, length, Some, None, IfOk, OnOk};
-ghost use Rattle.lua_ast.specs.Decode.{list_of, fields_of, cases_of, AllBelow, FieldsBelow};
-ghost use Rattle.lua_grammar.specs.Pushdown.{InParen, InIndex, InArgs, InKey, InTargets, InLocal, InAssign, InReturn, InStat, InLimit, InIterator, close};
-ghost use Rattle.lua_parser.specs.Shown.{tree_in, stack_in, begun_in, callee_in, purpose_in, place, BegunBelow, CalleeBelow, PurposeBelow, CasesBelow};
+ghost use Rattle.lua_ast.specs.Decode.{list_of, fields_of, AllBelow};
+ghost use Rattle.lua_grammar.specs.Pushdown.{InParen, InIndex, InArgs, InKey, InTargets, InLocal, InAssign, InReturn, InStat, close};
+ghost use Rattle.lua_parser.specs.Shown.{tree_in, stack_in, begun_in, callee_in, purpose_in, statement_in, place, BegunBelow, CalleeBelow, TableBelow, StatementBelow};
 ghost use Rattle.lua_parser.specs.Gave.{Gave, call_statement, mark_of};
 
-use crate::frame::{Begun, Callee, Frame, Purpose};
+use crate::frame::{Begun, BegunTable, Callee, Frame, OpenStatement};
 use crate::parser::Parser;
 use crate::refusal::Refusal;
 use crate::state::State;
-use lua_ast::{AstText, AstTexts, Fields, Ids, Node, NodeId};
+use lua_ast::{AstTexts, Ids, Node, NodeId};
 use lua_lexer::TokenKind;
 
 impl Parser {
@@ -94,34 +94,78 @@ impl Parser {
     /// `]` behind a key.
     pub fn close_key(
         &mut self,
-        purpose: Purpose,
-        line: u32,
-        fields: Fields,
+        table: BegunTable,
         had: NodeId,
         kind: Option<TokenKind>,
     ) -> Result<State, Refusal>
-        requires purpose { PurposeBelow (length self.old.nodes) purpose }
-        requires fields { FieldsBelow (length self.old.nodes) fields }
+        requires table { TableBelow (length self.old.nodes) table }
         requires had { had < length self.old.nodes }
         ensures { Gave
-            (close (InKey (purpose_in self.old.nodes purpose) line (fields_of (tree_in self.old.nodes) fields)) (tree_in self.old.nodes had) (stack_in self.old) (mark_of kind) (place true 0 []))
-            (close (InKey (purpose_in self.old.nodes purpose) line (fields_of (tree_in self.old.nodes) fields)) (tree_in self.old.nodes had) (stack_in self.old) (mark_of kind) (place false 0 []))
+            (close (InKey (purpose_in self.old.nodes table.purpose) table.line (fields_of (tree_in self.old.nodes) table.fields)) (tree_in self.old.nodes had) (stack_in self.old) (mark_of kind) (place true 0 []))
+            (close (InKey (purpose_in self.old.nodes table.purpose) table.line (fields_of (tree_in self.old.nodes) table.fields)) (tree_in self.old.nodes had) (stack_in self.old) (mark_of kind) (place false 0 []))
             result self.new }
     {
         match kind {
-            Some(TokenKind::CloseBracket) => Ok(State::KeyEnd {
-                purpose,
-                line,
-                fields,
-                key: had,
-            }),
+            Some(TokenKind::CloseBracket) => Ok(State::KeyEnd { table, key: had }),
             _ => Err(Refusal::Unexpected),
+        }
+    }
+
+    /// An expression of a statement is over.
+    pub fn close_in_statement(
+        &mut self,
+        statement: OpenStatement,
+        had: NodeId,
+        kind: Option<TokenKind>,
+        line: u32,
+        slice: &[u8],
+    ) -> Result<State, Refusal>
+        requires statement { StatementBelow (length self.old.nodes) statement }
+        requires had { had < length self.old.nodes }
+        ensures gave { Gave
+            (close (statement_in self.old.nodes statement) (tree_in self.old.nodes had) (stack_in self.old) (mark_of kind) (place true line slice.now))
+            (close (statement_in self.old.nodes statement) (tree_in self.old.nodes had) (stack_in self.old) (mark_of kind) (place false line slice.now))
+            result self.new }
+    {
+        match statement {
+            OpenStatement::Local {
+                line: own,
+                names,
+                exps,
+                block,
+            } => self.close_local(own, names, exps, block, had, kind, line, slice),
+            OpenStatement::Prefix { block } => self.close_prefix(block, had, kind, line, slice),
+            OpenStatement::Target {
+                line,
+                targets,
+                block,
+            } => self.close_target(line, targets, block, had, kind),
+            OpenStatement::Assign {
+                line: own,
+                targets,
+                exps,
+                block,
+            } => self.close_assign(own, targets, exps, block, had, kind, line, slice),
+            OpenStatement::Return { line, exps, block } => {
+                self.close_return(line, exps, block, had, kind)
+            }
+            OpenStatement::Until {
+                line: own,
+                body,
+                block,
+            } => {
+                let node = Node::Repeat {
+                    block: body,
+                    test: had,
+                };
+                self.next_after(block, node, own, kind, line, slice)
+            }
         }
     }
 
     /// `,` behind an expression of a `local`, or what follows the last one.
     #[tactic(auto, using(lua_ast::proofs::Growing::list_of_push, lua_ast::proofs::PlacesBelow::below_push))]
-    pub fn close_local(
+    fn close_local(
         &mut self,
         own: u32,
         names: AstTexts,
@@ -146,12 +190,12 @@ impl Parser {
         };
         match token {
             TokenKind::Comma => {
-                self.push(Frame::InLocal {
+                self.push(Frame::InStatement(OpenStatement::Local {
                     line: own,
                     names,
                     exps,
                     block,
-                })?;
+                }))?;
                 Ok(State::Need { limit: 0 })
             }
             _ => self.next_after(
@@ -167,7 +211,7 @@ impl Parser {
 
     /// `,` behind an expression of an assignment, or what follows the last one.
     #[tactic(auto, using(lua_ast::proofs::Growing::list_of_push, lua_ast::proofs::PlacesBelow::below_push))]
-    pub fn close_assign(
+    fn close_assign(
         &mut self,
         own: u32,
         targets: Ids,
@@ -200,12 +244,12 @@ impl Parser {
         };
         match token {
             TokenKind::Comma => {
-                self.push(Frame::InAssign {
+                self.push(Frame::InStatement(OpenStatement::Assign {
                     line: own,
                     targets,
                     exps,
                     block,
-                })?;
+                }))?;
                 Ok(State::Need { limit: 0 })
             }
             _ => self.next_after(
@@ -221,7 +265,7 @@ impl Parser {
 
     /// `,` or `;` behind an expression of a `return`, or the end of its block.
     #[tactic(auto, using(lua_ast::proofs::Growing::list_of_push, lua_ast::proofs::PlacesBelow::below_push))]
-    pub fn close_return(
+    fn close_return(
         &mut self,
         own: u32,
         mut exps: Ids,
@@ -243,11 +287,11 @@ impl Parser {
         };
         match token {
             TokenKind::Comma => {
-                self.push(Frame::InReturn {
+                self.push(Frame::InStatement(OpenStatement::Return {
                     line: own,
                     exps,
                     block,
-                })?;
+                }))?;
                 Ok(State::Need { limit: 0 })
             }
             TokenKind::Semicolon => {
@@ -260,7 +304,7 @@ impl Parser {
 
     /// `=` or `,` behind the first target of an assignment, or what follows a call that is a statement.
     #[tactic(auto, using(crate::proofs::Lists::one_of, crate::proofs::Lists::list_of_none))]
-    pub fn close_prefix(
+    fn close_prefix(
         &mut self,
         block: Begun,
         had: NodeId,
@@ -312,7 +356,7 @@ impl Parser {
     }
 
     /// `=` or `,` behind a further target of an assignment.
-    pub fn close_targets(
+    fn close_target(
         &mut self,
         own: u32,
         targets: Ids,
@@ -358,98 +402,17 @@ impl Parser {
         targets.push(had)?;
         match token {
             TokenKind::Assign => {
-                self.push(Frame::InAssign {
+                self.push(Frame::InStatement(OpenStatement::Assign {
                     line: own,
                     targets,
                     exps: Ids::new(self.alloc()),
                     block,
-                })?;
+                }))?;
                 Ok(State::Need { limit: 0 })
             }
             TokenKind::Comma => Ok(State::TargetNext {
                 line: own,
                 targets,
-                block,
-            }),
-            _ => Err(Refusal::Unexpected),
-        }
-    }
-
-    /// `,` or `do` behind an expression of a `for` over iterators.
-    #[tactic(auto, using(lua_ast::proofs::Growing::list_of_push, lua_ast::proofs::PlacesBelow::below_push))]
-    pub fn close_iterator(
-        &mut self,
-        own: u32,
-        names: AstTexts,
-        mut exps: Ids,
-        block: Begun,
-        had: NodeId,
-        kind: Option<TokenKind>,
-    ) -> Result<State, Refusal>
-        requires exps { AllBelow (length self.old.nodes) exps }
-        requires block { BegunBelow (length self.old.nodes) block }
-        requires had { had < length self.old.nodes }
-        ensures { Gave
-            (close (InIterator own names (list_of (tree_in self.old.nodes) exps) (begun_in self.old.nodes block)) (tree_in self.old.nodes had) (stack_in self.old) (mark_of kind) (place true 0 []))
-            (close (InIterator own names (list_of (tree_in self.old.nodes) exps) (begun_in self.old.nodes block)) (tree_in self.old.nodes had) (stack_in self.old) (mark_of kind) (place false 0 []))
-            result self.new }
-    {
-        exps.push(had)?;
-        match kind {
-            Some(TokenKind::Comma) => {
-                self.push(Frame::InIterator {
-                    line: own,
-                    names,
-                    exps,
-                    block,
-                })?;
-                Ok(State::Need { limit: 0 })
-            }
-            Some(TokenKind::Do) => self.enter_block(Frame::InGenFor {
-                line: own,
-                names,
-                exps,
-                block,
-            }),
-            _ => Err(Refusal::Unexpected),
-        }
-    }
-
-    /// `,` or `do` behind the limit of a `for`.
-    pub fn close_limit(
-        &mut self,
-        own: u32,
-        name: AstText,
-        first: NodeId,
-        block: Begun,
-        had: NodeId,
-        kind: Option<TokenKind>,
-    ) -> Result<State, Refusal>
-        requires first { first < length self.old.nodes }
-        requires block { BegunBelow (length self.old.nodes) block }
-        requires had { had < length self.old.nodes }
-        ensures { Gave
-            (close (InLimit own name (tree_in self.old.nodes first) (begun_in self.old.nodes block)) (tree_in self.old.nodes had) (stack_in self.old) (mark_of kind) (place true 0 []))
-            (close (InLimit own name (tree_in self.old.nodes first) (begun_in self.old.nodes block)) (tree_in self.old.nodes had) (stack_in self.old) (mark_of kind) (place false 0 []))
-            result self.new }
-    {
-        match kind {
-            Some(TokenKind::Comma) => {
-                self.push(Frame::InStep {
-                    line: own,
-                    name,
-                    first,
-                    last: had,
-                    block,
-                })?;
-                Ok(State::Need { limit: 0 })
-            }
-            Some(TokenKind::Do) => self.enter_block(Frame::InNumFor {
-                line: own,
-                name,
-                first,
-                last: had,
-                step: None,
                 block,
             }),
             _ => Err(Refusal::Unexpected),

@@ -6,7 +6,7 @@ ghost use Rattle.lua_grammar.specs.Pushdown.{begin, begin_unary, args_begin, arg
 ghost use Rattle.lua_parser.specs.Shown.{tree_in, stack_in, callee_in, place, CalleeBelow};
 ghost use Rattle.lua_parser.specs.Gave.{Gave, IsSmall};
 
-use crate::frame::{Callee, Frame, Head, Purpose};
+use crate::frame::{BegunTable, Callee, Frame, Head, Purpose};
 use crate::literal::{literal, unary_operator};
 use crate::parser::Parser;
 use crate::refusal::Refusal;
@@ -35,11 +35,14 @@ impl Parser {
                 Ok(self.give(limit, Node::Name { text }, line)?)
             }
             TokenKind::OpenParen => self.enter(Frame::InParen { limit, line }, 0),
-            TokenKind::OpenBrace => self.deepen(State::FieldNext {
-                purpose: Purpose::Value { limit },
-                line,
-                fields: Fields::new(self.alloc()),
-            }),
+            TokenKind::OpenBrace => {
+                let table = BegunTable {
+                    purpose: Purpose::Value { limit },
+                    line,
+                    fields: Fields::new(self.alloc()),
+                };
+                self.deepen(State::FieldNext { table })
+            }
             TokenKind::Function => self.deepen(State::BodyNext {
                 head: Head::Anonymous { limit, line },
             }),

@@ -1,17 +1,17 @@
 //! Arguments and fields (Lua 5.2 manual, 3.4.8 and 3.4.9).
 
 ghost use Rattle.std.specs.Prelude.{◌≡◌, ◌<◌, ◌≤◌, ◌∷◌, [], ℕ, suc, true, false, length, Some, None, IfOk, OnOk};
-ghost use Rattle.lua_ast.specs.Decode.{fields_of, with_field, FieldBelow, FieldsBelow};
+ghost use Rattle.lua_ast.specs.Decode.{fields_of, with_field, FieldBelow};
 ghost use Rattle.lua_grammar.specs.Signs.{token};
 ghost use Rattle.lua_grammar.specs.Pushdown.{args_open, field_next, field_done, key_end};
-ghost use Rattle.lua_parser.specs.Shown.{tree_in, stack_in, callee_in, purpose_in, place, CalleeBelow, PurposeBelow};
+ghost use Rattle.lua_parser.specs.Shown.{tree_in, stack_in, callee_in, purpose_in, place, CalleeBelow, TableBelow};
 ghost use Rattle.lua_parser.specs.Gave.{Gave, IsSmall, mark_of};
 
-use crate::frame::{Callee, Frame, Purpose};
+use crate::frame::{BegunTable, Callee, Frame};
 use crate::parser::Parser;
 use crate::refusal::Refusal;
 use crate::state::State;
-use lua_ast::{AstText, Field, Fields, Ids, NodeId};
+use lua_ast::{AstText, Field, Ids, NodeId};
 use lua_lexer::TokenKind;
 
 impl Parser {
@@ -51,77 +51,50 @@ impl Parser {
     /// A field, or `}`.
     pub fn field_next(
         &mut self,
-        purpose: Purpose,
-        own: u32,
-        fields: Fields,
+        table: BegunTable,
         kind: TokenKind,
         line: u32,
         slice: &[u8],
     ) -> Result<State, Refusal>
-        requires purpose { PurposeBelow (length self.old.nodes) purpose }
-        requires fields { FieldsBelow (length self.old.nodes) fields }
+        requires table { TableBelow (length self.old.nodes) table }
         requires small { IsSmall kind slice.now }
         ensures gave { Gave
-            (field_next (purpose_in self.old.nodes purpose) own (fields_of (tree_in self.old.nodes) fields) (stack_in self.old) (token kind) (place true line slice.now))
-            (field_next (purpose_in self.old.nodes purpose) own (fields_of (tree_in self.old.nodes) fields) (stack_in self.old) (token kind) (place false line slice.now))
+            (field_next (purpose_in self.old.nodes table.purpose) table.line (fields_of (tree_in self.old.nodes) table.fields) (stack_in self.old) (token kind) (place true line slice.now))
+            (field_next (purpose_in self.old.nodes table.purpose) table.line (fields_of (tree_in self.old.nodes) table.fields) (stack_in self.old) (token kind) (place false line slice.now))
             result self.new }
     {
         match kind {
-            TokenKind::CloseBrace => Ok(self.table(purpose, own, fields)?),
+            TokenKind::CloseBrace => Ok(self.table(table)?),
             TokenKind::Name => {
                 let name = AstText::from_bytes(self.alloc(), slice)?;
                 Ok(State::FieldName {
-                    purpose,
-                    line: own,
-                    fields,
+                    table,
                     own: line,
                     name,
                 })
             }
-            TokenKind::OpenBracket => {
-                let frame = Frame::InKey {
-                    purpose,
-                    line: own,
-                    fields,
-                };
-                self.enter(frame, 0)
-            }
-            _ => {
-                let frame = Frame::InItem {
-                    purpose,
-                    line: own,
-                    fields,
-                };
-                self.begin_in(frame, kind, line, slice)
-            }
+            TokenKind::OpenBracket => self.enter(Frame::InKey { table }, 0),
+            _ => self.begin_in(Frame::InItem { table }, kind, line, slice),
         }
     }
 
     /// The `=` behind a key.
     pub fn key_end(
         &mut self,
-        purpose: Purpose,
-        line: u32,
-        fields: Fields,
+        table: BegunTable,
         key: NodeId,
         kind: TokenKind,
     ) -> Result<State, Refusal>
-        requires purpose { PurposeBelow (length self.old.nodes) purpose }
-        requires fields { FieldsBelow (length self.old.nodes) fields }
+        requires table { TableBelow (length self.old.nodes) table }
         requires key { key < length self.old.nodes }
         ensures gave { Gave
-            (key_end (purpose_in self.old.nodes purpose) line (fields_of (tree_in self.old.nodes) fields) (tree_in self.old.nodes key) (stack_in self.old) (token kind))
-            (key_end (purpose_in self.old.nodes purpose) line (fields_of (tree_in self.old.nodes) fields) (tree_in self.old.nodes key) (stack_in self.old) (token kind))
+            (key_end (purpose_in self.old.nodes table.purpose) table.line (fields_of (tree_in self.old.nodes) table.fields) (tree_in self.old.nodes key) (stack_in self.old) (token kind))
+            (key_end (purpose_in self.old.nodes table.purpose) table.line (fields_of (tree_in self.old.nodes) table.fields) (tree_in self.old.nodes key) (stack_in self.old) (token kind))
             result self.new }
     {
         match kind {
             TokenKind::Assign => {
-                self.push(Frame::InKeyed {
-                    purpose,
-                    line,
-                    fields,
-                    key,
-                })?;
+                self.push(Frame::InKeyed { table, key })?;
                 Ok(State::Need { limit: 0 })
             }
             _ => Err(Refusal::Unexpected),
@@ -132,23 +105,20 @@ impl Parser {
     #[tactic(auto, using(lua_ast::proofs::Growing::fields_of_push, lua_ast::proofs::PlacesBelow::fields_below_push))]
     pub fn field_over(
         &mut self,
-        purpose: Purpose,
-        line: u32,
-        mut fields: Fields,
+        mut table: BegunTable,
         field: Field,
         kind: Option<TokenKind>,
     ) -> Result<State, Refusal>
-        requires purpose { PurposeBelow (length self.old.nodes) purpose }
-        requires fields { FieldsBelow (length self.old.nodes) fields }
+        requires table { TableBelow (length self.old.nodes) table }
         requires field { FieldBelow (length self.old.nodes) field }
         ensures gave { Gave
-            (field_done (purpose_in self.old.nodes purpose) line (with_field (tree_in self.old.nodes) (fields_of (tree_in self.old.nodes) fields) field) (stack_in self.old) (mark_of kind))
-            (field_done (purpose_in self.old.nodes purpose) line (with_field (tree_in self.old.nodes) (fields_of (tree_in self.old.nodes) fields) field) (stack_in self.old) (mark_of kind))
+            (field_done (purpose_in self.old.nodes table.purpose) table.line (with_field (tree_in self.old.nodes) (fields_of (tree_in self.old.nodes) table.fields) field) (stack_in self.old) (mark_of kind))
+            (field_done (purpose_in self.old.nodes table.purpose) table.line (with_field (tree_in self.old.nodes) (fields_of (tree_in self.old.nodes) table.fields) field) (stack_in self.old) (mark_of kind))
             result self.new }
     {
-        fields.push(field)?;
+        table.fields.push(field)?;
         match kind {
-            Some(kind) => self.field_done(purpose, line, fields, kind),
+            Some(kind) => self.field_done(table, kind),
             None => Err(Refusal::Unexpected),
         }
     }

@@ -5,21 +5,22 @@ ghost use Rattle.lua_ast.specs.Tree.{Name};
 ghost use Rattle.lua_grammar.specs.Pushdown.{close, follow, rest, field_name};
 ghost use Rattle.lua_grammar.specs.Operators.{joined};
 ghost use Rattle.lua_grammar.specs.Signs.{token};
-ghost use Rattle.lua_ast.specs.Decode.{fields_of, FieldsBelow};
-ghost use Rattle.lua_parser.specs.Shown.{tree_in, stack_in, frame_in, operator_in, purpose_in, place, PurposeBelow, FrameBelow};
+ghost use Rattle.lua_ast.specs.Decode.{fields_of};
+ghost use Rattle.lua_parser.specs.Shown.{tree_in, stack_in, frame_in, operator_in, purpose_in, place, TableBelow, FrameBelow};
 ghost use Rattle.lua_parser.specs.Gave.{Gave, mark_of};
 ghost use Rattle.lua_parser.specs.Follows.{Folds, IsKept, IsFewer, Follows};
 
-use crate::frame::{Frame, Operation, Purpose};
+use crate::frame::{BegunTable, Frame, Operation};
 use crate::parser::Parser;
 use crate::refusal::Refusal;
 use crate::state::{Folded, Followed, Operand, State};
-use lua_ast::{AstText, Field, Fields, Node, NodeId};
+use lua_ast::{AstText, Field, Node, NodeId};
 use lua_lexer::TokenKind;
 use std::alloc::AllocError;
 
 impl Parser {
     /// What was begun last goes on with the expression that is over.
+    #[tactic(auto, using(crate::proofs::Others::close_in_block))]
     pub fn close(
         &mut self,
         frame: Frame,
@@ -43,100 +44,21 @@ impl Parser {
                 callee,
                 args,
             } => self.close_args(limit, callee, args, had, kind),
-            Frame::InItem {
-                purpose,
-                line,
-                fields,
-            } => self.field_over(purpose, line, fields, Field::Item { value: had }, kind),
-            Frame::InNamed {
-                purpose,
-                line,
-                fields,
-                name,
-            } => self.field_over(
-                purpose,
-                line,
-                fields,
-                Field::Named { name, value: had },
-                kind,
-            ),
-            Frame::InKey {
-                purpose,
-                line,
-                fields,
-            } => self.close_key(purpose, line, fields, had, kind),
-            Frame::InKeyed {
-                purpose,
-                line,
-                fields,
-                key,
-            } => self.field_over(
-                purpose,
-                line,
-                fields,
-                Field::Keyed { key, value: had },
-                kind,
-            ),
-            Frame::InLocal {
-                line: own,
-                names,
-                exps,
-                block,
-            } => self.close_local(own, names, exps, block, had, kind, line, slice),
-            Frame::InStat { block } => self.close_prefix(block, had, kind, line, slice),
-            Frame::InTargets {
-                line,
-                targets,
-                block,
-            } => self.close_targets(line, targets, block, had, kind),
-            Frame::InAssign {
-                line: own,
-                targets,
-                exps,
-                block,
-            } => self.close_assign(own, targets, exps, block, had, kind, line, slice),
-            Frame::InReturn { line, exps, block } => self.close_return(
-                line, exps, block, had, kind,
-            ),
-            Frame::InUntil {
-                line: own,
-                body,
-                block,
-            } => {
-                let node = Node::Repeat {
-                    block: body,
-                    test: had,
-                };
-                self.next_after(block, node, own, kind, line, slice)
+            Frame::InItem { table } => self.field_over(table, Field::Item { value: had }, kind),
+            Frame::InNamed { table, name } => {
+                self.field_over(table, Field::Named { name, value: had }, kind)
             }
-            Frame::InLimit {
-                line,
-                name,
-                first,
-                block,
-            } => self.close_limit(line, name, first, block, had, kind),
-            Frame::InIterator {
-                line,
-                names,
-                exps,
-                block,
-            } => self.close_iterator(line, names, exps, block, had, kind),
-            Frame::InWhileTest { line, block } => self.close_while(line, block, had, kind),
-            Frame::InIfTest {
-                line,
-                tests,
-                blocks,
-                block,
-            } => self.close_if(line, tests, blocks, block, had, kind),
-            Frame::InFirst { line, name, block } => self.close_first(line, name, block, had, kind),
-            Frame::InStep {
-                line,
-                name,
-                first,
-                last,
-                block,
-            } => self.close_step(line, name, first, last, block, had, kind),
-            _ => Err(Refusal::Unexpected),
+            Frame::InKey { table } => self.close_key(table, had, kind),
+            Frame::InKeyed { table, key } => {
+                self.field_over(table, Field::Keyed { key, value: had }, kind)
+            }
+            Frame::InStatement(statement) => {
+                self.close_in_statement(statement, had, kind, line, slice)
+            }
+            Frame::InHeader(header) => self.close_in_header(header, had, kind),
+            Frame::InUnary { .. } | Frame::InBinary { .. } | Frame::InBlock(_) => {
+                Err(Refusal::Unexpected)
+            }
         }
     }
 
@@ -261,38 +183,26 @@ impl Parser {
     /// What follows a name that begins a field, and stands on the line `own`.
     pub fn field_name(
         &mut self,
-        purpose: Purpose,
-        first: u32,
-        fields: Fields,
+        table: BegunTable,
         own: u32,
         name: AstText,
         kind: TokenKind,
         line: u32,
         slice: &[u8],
     ) -> Result<State, Refusal>
-        requires purpose { PurposeBelow (length self.old.nodes) purpose }
-        requires fields { FieldsBelow (length self.old.nodes) fields }
+        requires table { TableBelow (length self.old.nodes) table }
         ensures gave { Gave
-            (field_name (purpose_in self.old.nodes purpose) first (fields_of (tree_in self.old.nodes) fields) own name (stack_in self.old) (token kind) (place true line slice.now))
-            (field_name (purpose_in self.old.nodes purpose) first (fields_of (tree_in self.old.nodes) fields) own name (stack_in self.old) (token kind) (place false line slice.now))
+            (field_name (purpose_in self.old.nodes table.purpose) table.line (fields_of (tree_in self.old.nodes) table.fields) own name (stack_in self.old) (token kind) (place true line slice.now))
+            (field_name (purpose_in self.old.nodes table.purpose) table.line (fields_of (tree_in self.old.nodes) table.fields) own name (stack_in self.old) (token kind) (place false line slice.now))
             result self.new }
     {
         match kind {
             TokenKind::Assign => {
-                self.push(Frame::InNamed {
-                    purpose,
-                    line: first,
-                    fields,
-                    name,
-                })?;
+                self.push(Frame::InNamed { table, name })?;
                 Ok(State::Need { limit: 0 })
             }
             _ => {
-                self.push(Frame::InItem {
-                    purpose,
-                    line: first,
-                    fields,
-                })?;
+                self.push(Frame::InItem { table })?;
                 let had = self.add(Node::Name { text: name }, own)?;
                 self.follow(0, had, Some(kind), line, slice)
             }

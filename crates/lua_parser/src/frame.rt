@@ -35,6 +35,14 @@ pub enum Purpose {
     Argument { limit: u8, callee: Callee },
 }
 
+/// The fields of a table constructor so far, which begins on this line.
+#[derive(Debug, Drop)]
+pub struct BegunTable {
+    pub purpose: Purpose,
+    pub line: u32,
+    pub fields: Fields,
+}
+
 /// A function before its parameters.
 #[derive(Debug, Drop)]
 pub enum Head {
@@ -59,8 +67,147 @@ pub enum Head {
     },
 }
 
+/// A `for` over numbers, without its block.
+#[derive(Debug, Drop)]
+pub struct NumericFor {
+    pub line: u32,
+    pub name: AstText,
+    pub first: NodeId,
+    pub last: NodeId,
+    pub step: Option<NodeId>,
+    pub block: Begun,
+}
+
+/// A `for` over iterators, with its expressions so far and without its block.
+#[derive(Debug, Drop)]
+pub struct GenericFor {
+    pub line: u32,
+    pub names: AstTexts,
+    pub exps: Ids,
+    pub block: Begun,
+}
+
+/// A statement of which the last part so far is an expression.
+#[derive(Debug, Drop)]
+pub enum OpenStatement {
+    /// `local a, b = ..`
+    Local {
+        line: u32,
+        names: AstTexts,
+        exps: Ids,
+        block: Begun,
+    },
+    /// A call, or the first target of an assignment.
+    Prefix {
+        block: Begun,
+    },
+    /// A further target of an assignment.
+    Target {
+        line: u32,
+        targets: Ids,
+        block: Begun,
+    },
+    /// `a, b = ..`
+    Assign {
+        line: u32,
+        targets: Ids,
+        exps: Ids,
+        block: Begun,
+    },
+    /// `return ..`
+    Return {
+        line: u32,
+        exps: Ids,
+        block: Begun,
+    },
+    /// `repeat .. until ..`
+    Until {
+        line: u32,
+        body: NodeId,
+        block: Begun,
+    },
+}
+
+/// What stands before a block of a statement, where an expression is its last part so far.
+#[derive(Debug, Drop)]
+pub enum OpenHeader {
+    /// `while ..`
+    While {
+        line: u32,
+        block: Begun,
+    },
+    /// `if ..` or `elseif ..`
+    If {
+        line: u32,
+        tests: Ids,
+        blocks: Ids,
+        block: Begun,
+    },
+    /// `for i = ..`
+    First {
+        line: u32,
+        name: AstText,
+        block: Begun,
+    },
+    /// `for i = first, ..`
+    Last {
+        line: u32,
+        name: AstText,
+        first: NodeId,
+        block: Begun,
+    },
+    /// `for i = first, last, ..`
+    Step {
+        line: u32,
+        name: AstText,
+        first: NodeId,
+        last: NodeId,
+        block: Begun,
+    },
+    /// `for k, v in ..`
+    Iterator(GenericFor),
+}
+
+/// What the block that is being read belongs to.
+#[derive(Debug, Drop)]
+pub enum OpenBlock {
+    Do {
+        line: u32,
+        block: Begun,
+    },
+    While {
+        line: u32,
+        test: NodeId,
+        block: Begun,
+    },
+    Repeat {
+        line: u32,
+        block: Begun,
+    },
+    Then {
+        line: u32,
+        tests: Ids,
+        blocks: Ids,
+        test: NodeId,
+        block: Begun,
+    },
+    Else {
+        line: u32,
+        tests: Ids,
+        blocks: Ids,
+        block: Begun,
+    },
+    NumericFor(NumericFor),
+    GenericFor(GenericFor),
+    Function {
+        head: Head,
+        params: Vec<AstText>,
+        vararg: bool,
+    },
+}
+
 /// What was begun. `limit` is the least level that is wanted where it stands (Lua 5.2 manual,
-/// 3.4.7), and `block` are the statements before it in its block.
+/// 3.4.7). Elsewhere, `block` are the statements before a statement in its block.
 #[derive(Debug, Drop)]
 pub enum Frame {
     InParen {
@@ -87,134 +234,20 @@ pub enum Frame {
         args: Ids,
     },
     InItem {
-        purpose: Purpose,
-        line: u32,
-        fields: Fields,
+        table: BegunTable,
     },
     InNamed {
-        purpose: Purpose,
-        line: u32,
-        fields: Fields,
+        table: BegunTable,
         name: AstText,
     },
     InKey {
-        purpose: Purpose,
-        line: u32,
-        fields: Fields,
+        table: BegunTable,
     },
     InKeyed {
-        purpose: Purpose,
-        line: u32,
-        fields: Fields,
+        table: BegunTable,
         key: NodeId,
     },
-    InLocal {
-        line: u32,
-        names: AstTexts,
-        exps: Ids,
-        block: Begun,
-    },
-    InStat {
-        block: Begun,
-    },
-    InTargets {
-        line: u32,
-        targets: Ids,
-        block: Begun,
-    },
-    InAssign {
-        line: u32,
-        targets: Ids,
-        exps: Ids,
-        block: Begun,
-    },
-    InReturn {
-        line: u32,
-        exps: Ids,
-        block: Begun,
-    },
-    InWhileTest {
-        line: u32,
-        block: Begun,
-    },
-    InIfTest {
-        line: u32,
-        tests: Ids,
-        blocks: Ids,
-        block: Begun,
-    },
-    InUntil {
-        line: u32,
-        body: NodeId,
-        block: Begun,
-    },
-    InFirst {
-        line: u32,
-        name: AstText,
-        block: Begun,
-    },
-    InLimit {
-        line: u32,
-        name: AstText,
-        first: NodeId,
-        block: Begun,
-    },
-    InStep {
-        line: u32,
-        name: AstText,
-        first: NodeId,
-        last: NodeId,
-        block: Begun,
-    },
-    InIterator {
-        line: u32,
-        names: AstTexts,
-        exps: Ids,
-        block: Begun,
-    },
-    InDo {
-        line: u32,
-        block: Begun,
-    },
-    InWhile {
-        line: u32,
-        test: NodeId,
-        block: Begun,
-    },
-    InRepeat {
-        line: u32,
-        block: Begun,
-    },
-    InThen {
-        line: u32,
-        tests: Ids,
-        blocks: Ids,
-        test: NodeId,
-        block: Begun,
-    },
-    InElse {
-        line: u32,
-        tests: Ids,
-        blocks: Ids,
-        block: Begun,
-    },
-    InNumFor {
-        line: u32,
-        name: AstText,
-        first: NodeId,
-        last: NodeId,
-        step: Option<NodeId>,
-        block: Begun,
-    },
-    InGenFor {
-        line: u32,
-        names: AstTexts,
-        exps: Ids,
-        block: Begun,
-    },
-    InFunction {
-        head: Head,
-        params: Vec<AstText>,
-        vararg: bool,
-    },
+    InStatement(OpenStatement),
+    InHeader(OpenHeader),
+    InBlock(OpenBlock),
 }

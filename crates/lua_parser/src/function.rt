@@ -8,7 +8,7 @@ ghost use Rattle.lua_grammar.specs.Pushdown.{BlockNext, StatNext, InFunction, ad
 ghost use Rattle.lua_parser.specs.Shown.{tree_in, stack_in, state_in, begun_in, head_in, given, place, BegunBelow, HeadBelow, StateBelow};
 ghost use Rattle.lua_parser.specs.Gave.{Gave, within};
 
-use crate::frame::{Begun, Frame, Head};
+use crate::frame::{Begun, Frame, Head, OpenBlock};
 use crate::parser::Parser;
 use crate::refusal::Refusal;
 use crate::state::{Naming, State};
@@ -180,11 +180,11 @@ impl Parser {
             ≡ BlockNext (InFunction (head_in self.old.nodes head) params.items vararg ∷ stack_in self.old)) }
         ensures below { IfOk result (λ s. StateBelow (length self.new.nodes) s) }
     {
-        self.push(Frame::InFunction {
+        self.push(Frame::InBlock(OpenBlock::Function {
             head,
             params,
             vararg,
-        })?;
+        }))?;
         Ok(State::BlockNext)
     }
 

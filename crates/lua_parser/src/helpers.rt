@@ -3,10 +3,10 @@
 ghost use Rattle.std.specs.Prelude.{◌≡◌, ◌<◌, ◌≤◌, ◌∷◌, [], ℕ, suc, length, Some, IfOk, IfErr, OnOk};
 ghost use Rattle.lua_ast.specs.Decode.{PartsBelow, node_tree};
 ghost use Rattle.lua_grammar.specs.Pushdown.{Need, BlockNext, Have, add, depth, lift, block_of};
-ghost use Rattle.lua_parser.specs.Shown.{tree_in, stack_in, state_in, begun_in, frame_in, BegunBelow, FrameBelow, StateBelow};
+ghost use Rattle.lua_parser.specs.Shown.{tree_in, stack_in, state_in, begun_in, block_in, frame_in, BegunBelow, BlockBelow, FrameBelow, StateBelow};
 ghost use Rattle.lua_parser.specs.Gave.{Gave, within};
 
-use crate::frame::{Begun, Frame};
+use crate::frame::{Begun, Frame, OpenBlock};
 use crate::parser::Parser;
 use crate::refusal::Refusal;
 use crate::stack::levels_in;
@@ -87,18 +87,18 @@ impl Parser {
     }
 
     /// A block is begun, if there is room for its level.
-    #[tactic(auto, using(crate::proofs::Rooms::within_room, crate::proofs::Rooms::within_deep, crate::proofs::Rooms::lift_levels))]
-    pub fn enter_block(&mut self, frame: Frame) -> Result<State, Refusal>
-        requires { FrameBelow (length self.old.nodes) frame }
+    #[tactic(auto, using(crate::proofs::Rooms::within_room, crate::proofs::Rooms::within_deep, crate::proofs::Nodes::lift_block))]
+    pub fn enter_block(&mut self, outer: OpenBlock) -> Result<State, Refusal>
+        requires { BlockBelow (length self.old.nodes) outer }
         ensures { Gave
-            (within (lift (frame_in self.old.nodes frame) (depth (stack_in self.old)))
-            (BlockNext (frame_in self.old.nodes frame ∷ stack_in self.old)))
-            (Some (BlockNext (frame_in self.old.nodes frame ∷ stack_in self.old))) result self.new }
+            (within (lift (block_in self.old.nodes outer) (depth (stack_in self.old)))
+            (BlockNext (block_in self.old.nodes outer ∷ stack_in self.old)))
+            (Some (BlockNext (block_in self.old.nodes outer ∷ stack_in self.old))) result self.new }
     {
-        if self.depth() > 200 - levels_in(&frame) {
+        if self.depth() > 199 {
             return Err(Refusal::TooDeep);
         }
-        self.push(frame)?;
+        self.push(Frame::InBlock(outer))?;
         Ok(State::BlockNext)
     }
 }

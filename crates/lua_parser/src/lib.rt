@@ -4,12 +4,12 @@
 mod block;
 mod call;
 mod close;
-mod close_loop;
 mod expression;
 mod field;
 mod follow;
 mod frame;
 mod function;
+mod header;
 mod helpers;
 mod literal;
 mod name;

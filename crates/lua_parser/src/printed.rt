@@ -128,6 +128,16 @@ impl Forms {
         put(out, ")")
     }
 
+    fn put_unary(&self, out: &mut Vec<u8>, op: UnOp, operand: NodeId) -> Result<(), AllocError> {
+        match op {
+            UnOp::Neg => put(out, "(-")?,
+            UnOp::Not => put(out, "(not ")?,
+            UnOp::Len => put(out, "(#")?,
+        }
+        self.put_node(out, operand)?;
+        put(out, ")")
+    }
+
     fn put_call(
         &self,
         out: &mut Vec<u8>,
@@ -189,15 +199,7 @@ impl Forms {
                 LogicOp::And => self.put_pair(out, *left, " and ", *right),
                 LogicOp::Or => self.put_pair(out, *left, " or ", *right),
             },
-            Node::Unary { op, operand } => {
-                match *op {
-                    UnOp::Neg => put(out, "(-")?,
-                    UnOp::Not => put(out, "(not ")?,
-                    UnOp::Len => put(out, "(#")?,
-                }
-                self.put_node(out, *operand)?;
-                put(out, ")")
-            }
+            Node::Unary { op, operand } => self.put_unary(out, *op, *operand),
             Node::Paren { inner } => {
                 put(out, "<")?;
                 self.put_node(out, *inner)?;
@@ -234,20 +236,6 @@ impl Forms {
                 put(out, "call ")?;
                 self.put_node(out, *call)
             }
-            Node::Do { block } => {
-                put(out, "do")?;
-                self.put_node(out, *block)
-            }
-            Node::While { test, block } => {
-                put(out, "while ")?;
-                self.put_node(out, *test)?;
-                self.put_node(out, *block)
-            }
-            Node::Repeat { block, test } => {
-                put(out, "repeat")?;
-                self.put_node(out, *block)?;
-                self.put_node(out, *test)
-            }
             Node::Return { exps } => {
                 put(out, "return ")?;
                 self.put_nodes(out, exps, ",")
@@ -265,8 +253,22 @@ impl Forms {
         }
     }
 
-    fn put_larger(&self, out: &mut Vec<u8>, node: &Node) -> Result<(), AllocError> {
+    fn put_compound(&self, out: &mut Vec<u8>, node: &Node) -> Result<(), AllocError> {
         match node {
+            Node::Do { block } => {
+                put(out, "do")?;
+                self.put_node(out, *block)
+            }
+            Node::While { test, block } => {
+                put(out, "while ")?;
+                self.put_node(out, *test)?;
+                self.put_node(out, *block)
+            }
+            Node::Repeat { block, test } => {
+                put(out, "repeat")?;
+                self.put_node(out, *block)?;
+                self.put_node(out, *test)
+            }
             Node::If {
                 tests,
                 blocks,
@@ -281,6 +283,18 @@ impl Forms {
                 }
                 Ok(())
             }
+            Node::LocalFunction { name, function } => {
+                put(out, "local fn ")?;
+                put_text(out, name)?;
+                put(out, "=")?;
+                self.put_node(out, *function)
+            }
+            _ => Ok(()),
+        }
+    }
+
+    fn put_for(&self, out: &mut Vec<u8>, node: &Node) -> Result<(), AllocError> {
+        match node {
             Node::NumFor {
                 name,
                 first,
@@ -307,12 +321,6 @@ impl Forms {
                 self.put_nodes(out, exps, ",")?;
                 self.put_node(out, *block)
             }
-            Node::LocalFunction { name, function } => {
-                put(out, "local fn ")?;
-                put_text(out, name)?;
-                put(out, "=")?;
-                self.put_node(out, *function)
-            }
             _ => Ok(()),
         }
     }
@@ -328,7 +336,8 @@ pub fn printed(alloc: Global, chunk: &Chunk) -> Result<Vec<u8>, AllocError> {
         let node = chunk.node(NodeId::new(number as u32));
         forms.put_expression(&mut form, node, alloc)?;
         forms.put_statement(&mut form, node)?;
-        forms.put_larger(&mut form, node)?;
+        forms.put_compound(&mut form, node)?;
+        forms.put_for(&mut form, node)?;
         forms.forms.push(form)?;
     }
     let mut out = Vec::new(alloc);

@@ -33,23 +33,8 @@ pub fn levels_in(frame: &Frame) -> usize
 {
     match frame {
         Frame::InKey { .. } => 2,
-        Frame::InParen { .. }
-        | Frame::InUnary { .. }
-        | Frame::InBinary { .. }
-        | Frame::InIndex { .. }
-        | Frame::InArgs { .. }
-        | Frame::InItem { .. }
-        | Frame::InNamed { .. }
-        | Frame::InKeyed { .. }
-        | Frame::InDo { .. }
-        | Frame::InWhile { .. }
-        | Frame::InRepeat { .. }
-        | Frame::InThen { .. }
-        | Frame::InElse { .. }
-        | Frame::InNumFor { .. }
-        | Frame::InGenFor { .. }
-        | Frame::InFunction { .. } => 1,
-        _ => 0,
+        Frame::InStatement(_) | Frame::InHeader(_) => 0,
+        _ => 1,
     }
 }
 

@@ -1,7 +1,7 @@
 //! What may come next.
 
-use crate::frame::{Begun, Callee, Frame, Head, Operation, Purpose};
-use lua_ast::{AstText, AstTexts, Fields, Ids, NodeId};
+use crate::frame::{Begun, BegunTable, Callee, Frame, Head, Operation};
+use lua_ast::{AstText, AstTexts, Ids, NodeId};
 
 /// What a name is to come for.
 #[derive(Debug, Drop)]
@@ -85,23 +85,17 @@ pub enum State {
     },
     /// A field, or `}`.
     FieldNext {
-        purpose: Purpose,
-        line: u32,
-        fields: Fields,
+        table: BegunTable,
     },
-    /// What follows a name that begins a field.
+    /// What follows a name that begins a field and stands on the line `own`.
     FieldName {
-        purpose: Purpose,
-        line: u32,
-        fields: Fields,
+        table: BegunTable,
         own: u32,
         name: AstText,
     },
     /// The `=` behind a key.
     KeyEnd {
-        purpose: Purpose,
-        line: u32,
-        fields: Fields,
+        table: BegunTable,
         key: NodeId,
     },
     /// The first token of a block, or the end of one without statements.

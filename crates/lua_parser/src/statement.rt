@@ -5,10 +5,10 @@ ghost use Rattle.lua_ast.specs.Decode.{PartsBelow, node_tree, list_of, AllBelow}
 ghost use Rattle.lua_lexer.specs.declared.token.TokenKind.TheVariants.{In};
 ghost use Rattle.lua_grammar.specs.Signs.{token};
 ghost use Rattle.lua_grammar.specs.Pushdown.{InStat, add, next, end_block, block_of, begin, opened, Need, InParen, lift, label_end, local_next, local_names, for_name, for_names, target_next, return_next};
-ghost use Rattle.lua_parser.specs.Shown.{tree_in, stack_in, begun_in, frame_in, place, BegunBelow, FrameBelow};
+ghost use Rattle.lua_parser.specs.Shown.{tree_in, stack_in, begun_in, statement_in, frame_in, place, BegunBelow, StatementBelow, FrameBelow};
 ghost use Rattle.lua_parser.specs.Gave.{Gave, IsSmall, IsSmallSign, begin_prefix, next_block, mark_of};
 
-use crate::frame::{Begun, Frame};
+use crate::frame::{Begun, Frame, GenericFor, OpenBlock, OpenHeader, OpenStatement};
 use crate::parser::Parser;
 use crate::refusal::Refusal;
 use crate::state::{Naming, State};
@@ -36,20 +36,20 @@ impl Parser {
     }
 
     /// In a statement that begins with a prefix, a name or an expression in parentheses begins.
+    #[tactic(auto, using(crate::proofs::Nodes::lift_statement))]
     pub fn begin_prefix(
         &mut self,
-        frame: Frame,
+        statement: OpenStatement,
         kind: TokenKind,
         line: u32,
         slice: &[u8],
     ) -> Result<State, Refusal>
-        requires frame { FrameBelow (length self.old.nodes) frame }
-        requires flat { (n : ℕ) → lift (frame_in self.old.nodes frame) n ≡ n }
+        requires { StatementBelow (length self.old.nodes) statement }
         ensures gave { Gave
-            (begin_prefix (frame_in self.old.nodes frame) (stack_in self.old) (token kind) (place true line slice.now))
-            (begin_prefix (frame_in self.old.nodes frame) (stack_in self.old) (token kind) (place false line slice.now)) result self.new }
+            (begin_prefix (statement_in self.old.nodes statement) (stack_in self.old) (token kind) (place true line slice.now))
+            (begin_prefix (statement_in self.old.nodes statement) (stack_in self.old) (token kind) (place false line slice.now)) result self.new }
     {
-        self.push(frame)?;
+        self.push(Frame::InStatement(statement))?;
         match kind {
             TokenKind::Name => {
                 let text = AstText::from_bytes(self.alloc(), slice)?;
@@ -96,7 +96,7 @@ impl Parser {
         match kind {
             TokenKind::Semicolon => Ok(State::StatNext { block }),
             TokenKind::Name | TokenKind::OpenParen => {
-                self.begin_prefix(Frame::InStat { block }, kind, line, slice)
+                self.begin_prefix(OpenStatement::Prefix { block }, kind, line, slice)
             }
             TokenKind::DoubleColon => {
                 let naming = Naming::ForLabel { line, block };
@@ -134,20 +134,20 @@ impl Parser {
             result self.new }
     {
         match kind {
-            TokenKind::Do => self.enter_block(Frame::InDo { line, block }),
+            TokenKind::Do => self.enter_block(OpenBlock::Do { line, block }),
             TokenKind::While => {
-                self.push(Frame::InWhileTest { line, block })?;
+                self.push(Frame::InHeader(OpenHeader::While { line, block }))?;
                 Ok(State::Need { limit: 0 })
             }
-            TokenKind::Repeat => self.enter_block(Frame::InRepeat { line, block }),
+            TokenKind::Repeat => self.enter_block(OpenBlock::Repeat { line, block }),
             TokenKind::If => {
-                let frame = Frame::InIfTest {
+                let header = OpenHeader::If {
                     line,
                     tests: Ids::new(self.alloc()),
                     blocks: Ids::new(self.alloc()),
                     block,
                 };
-                self.push(frame)?;
+                self.push(Frame::InHeader(header))?;
                 Ok(State::Need { limit: 0 })
             }
             other => self.end_block(block, Some(other)),
@@ -294,12 +294,12 @@ impl Parser {
                 Ok(State::NameNext { naming })
             }
             TokenKind::Assign => {
-                self.push(Frame::InLocal {
+                self.push(Frame::InStatement(OpenStatement::Local {
                     line: own,
                     names,
                     exps,
                     block,
-                })?;
+                }))?;
                 Ok(State::Need { limit: 0 })
             }
             _ => self.next_after(
@@ -330,7 +330,7 @@ impl Parser {
     {
         match kind {
             TokenKind::Assign => {
-                self.push(Frame::InFirst { line, name, block })?;
+                self.push(Frame::InHeader(OpenHeader::First { line, name, block }))?;
                 Ok(State::Need { limit: 0 })
             }
             TokenKind::Comma => {
@@ -382,12 +382,12 @@ impl Parser {
             result self.new }
     {
         let exps = Ids::new(self.alloc());
-        self.push(Frame::InIterator {
+        self.push(Frame::InHeader(OpenHeader::Iterator(GenericFor {
             line,
             names,
             exps,
             block,
-        })?;
+        })))?;
         Ok(State::Need { limit: 0 })
     }
 
@@ -408,12 +408,12 @@ impl Parser {
             (target_next own (list_of (tree_in self.old.nodes) targets) (begun_in self.old.nodes block) (stack_in self.old) (token kind) (place false line slice.now))
             result self.new }
     {
-        let frame = Frame::InTargets {
+        let statement = OpenStatement::Target {
             line: own,
             targets,
             block,
         };
-        self.begin_prefix(frame, kind, line, slice)
+        self.begin_prefix(statement, kind, line, slice)
     }
 
     /// What follows `return`, which stands on the line `own`.
@@ -446,12 +446,12 @@ impl Parser {
                 self.end_after(block, Node::Return { exps }, own, Some(token))
             }
             _ => {
-                let frame = Frame::InReturn {
+                let statement = OpenStatement::Return {
                     line: own,
                     exps,
                     block,
                 };
-                self.begin_in(frame, token, line, slice)
+                self.begin_in(Frame::InStatement(statement), token, line, slice)
             }
         }
     }

@@ -51,24 +51,11 @@ impl Parser {
             State::NameNext { naming } => self.name_next(naming, kind, line, slice),
             State::ArgsNext { limit, callee } => self.args_begin(limit, callee, kind, line, slice),
             State::ArgsOpen { limit, callee } => self.args_open(limit, callee, kind, line, slice),
-            State::FieldNext {
-                purpose,
-                line: own,
-                fields,
-            } => self.field_next(purpose, own, fields, kind, line, slice),
-            State::FieldName {
-                purpose,
-                line: first,
-                fields,
-                own,
-                name,
-            } => self.field_name(purpose, first, fields, own, name, kind, line, slice),
-            State::KeyEnd {
-                purpose,
-                line: own,
-                fields,
-                key,
-            } => self.key_end(purpose, own, fields, key, kind),
+            State::FieldNext { table } => self.field_next(table, kind, line, slice),
+            State::FieldName { table, own, name } => {
+                self.field_name(table, own, name, kind, line, slice)
+            }
+            State::KeyEnd { table, key } => self.key_end(table, key, kind),
             State::BlockNext => self.block_next(Some(kind), line, slice),
             State::StatNext { block } => self.next(block, Some(kind), line, slice),
             State::LabelEnd { line, name, block } => self.label_end(line, name, block, kind),

@@ -4,6 +4,7 @@ use crate::printed::printed;
 use crate::{ParseError, parse};
 use lua_lexer::lex;
 use std::alloc::{AllocError, Global};
+use std::process::Abort;
 use std::test::Fail;
 
 /// The printed tree of a text, or its refusal.
@@ -28,8 +29,17 @@ fn refusal(alloc: Global, word: &str, at: u32) -> Result<Vec<u8>, AllocError> {
     text.as_bytes().to_vec(alloc)
 }
 
+/// Each text has this answer.
+fn answers(rt: &impl Abort, alloc: Global, table: &[(&str, &str)]) -> Result<(), Fail> {
+    for (text, wanted) in table {
+        let got = answer(alloc, text.as_bytes())?;
+        assert_eq!(rt; got.as_slice(), wanted.as_bytes(), "{text}");
+    }
+    Ok(())
+}
+
 #[test]
-fn expressions(rt: HostRuntime) -> Result<(), Fail> {
+fn constants_and_prefixes(rt: HostRuntime) -> Result<(), Fail> {
     let table = [
         ("return", "{return }"),
         (
@@ -40,25 +50,6 @@ fn expressions(rt: HostRuntime) -> Result<(), Fail> {
         ("return [[\nab]]", "{return 'ab'}"),
         ("return a.b", "{return a['b']}"),
         ("return a.b[c].d", "{return a['b'][c]['d']}"),
-        ("return 1 + 2 - 3", "{return ((1+2)-3)}"),
-        ("return 1 + 2 * 3 / 4 % 5", "{return (1+(((2*3)/4)%5))}"),
-        ("return a .. b .. c", "{return (a..(b..c))}"),
-        ("return a ^ b ^ c", "{return (a^(b^c))}"),
-        ("return -a ^ b", "{return (-(a^b))}"),
-        ("return a ^ -b", "{return (a^(-b))}"),
-        ("return 2 ^ -3 ^ 2", "{return (2^(-(3^2)))}"),
-        ("return -a * b", "{return ((-a)*b)}"),
-        ("return not a == b", "{return ((not a)==b)}"),
-        ("return not not #a", "{return (not (not (#a)))}"),
-        ("return a or b and c", "{return (a or (b and c))}"),
-        ("return a and b or c", "{return ((a and b) or c)}"),
-        ("return a < b == c", "{return ((a<b)==c)}"),
-        (
-            "return a <= b, a >= b, a > b, a ~= b",
-            "{return (a<=b),(a>=b),(a>b),(a~=b)}",
-        ),
-        ("return a .. b + 1 .. c", "{return (a..((b+1)..c))}"),
-        ("return a < b .. c", "{return (a<(b..c))}"),
         ("return (a)", "{return <a>}"),
         ("return ((a + b)) * c", "{return (<<(a+b)>>*c)}"),
         ("return (f())", "{return <f()>}"),
@@ -79,11 +70,33 @@ fn expressions(rt: HostRuntime) -> Result<(), Fail> {
         ("return {a + 1, a.b; f(),}", "{return {(a+1),a['b'],f(),}}"),
         ("return {a = a == b}", "{return {a=(a==b),}}"),
     ];
-    for (text, tree) in table {
-        let got = answer(rt.alloc(), text.as_bytes())?;
-        assert_eq!(rt; got.as_slice(), tree.as_bytes(), "{text}");
-    }
-    Ok(())
+    answers(&rt, rt.alloc(), table.as_slice())
+}
+
+#[test]
+fn operators(rt: HostRuntime) -> Result<(), Fail> {
+    let table = [
+        ("return 1 + 2 - 3", "{return ((1+2)-3)}"),
+        ("return 1 + 2 * 3 / 4 % 5", "{return (1+(((2*3)/4)%5))}"),
+        ("return a .. b .. c", "{return (a..(b..c))}"),
+        ("return a ^ b ^ c", "{return (a^(b^c))}"),
+        ("return -a ^ b", "{return (-(a^b))}"),
+        ("return a ^ -b", "{return (a^(-b))}"),
+        ("return 2 ^ -3 ^ 2", "{return (2^(-(3^2)))}"),
+        ("return -a * b", "{return ((-a)*b)}"),
+        ("return not a == b", "{return ((not a)==b)}"),
+        ("return not not #a", "{return (not (not (#a)))}"),
+        ("return a or b and c", "{return (a or (b and c))}"),
+        ("return a and b or c", "{return ((a and b) or c)}"),
+        ("return a < b == c", "{return ((a<b)==c)}"),
+        (
+            "return a <= b, a >= b, a > b, a ~= b",
+            "{return (a<=b),(a>=b),(a>b),(a~=b)}",
+        ),
+        ("return a .. b + 1 .. c", "{return (a..((b+1)..c))}"),
+        ("return a < b .. c", "{return (a<(b..c))}"),
+    ];
+    answers(&rt, rt.alloc(), table.as_slice())
 }
 
 #[test]
@@ -109,6 +122,16 @@ fn statements(rt: HostRuntime) -> Result<(), Fail> {
         ("function f() end", "{f=fn(){}}"),
         ("function a.b.c() end", "{a['b']['c']=fn(){}}"),
         ("function a.b:c(d) end", "{a['b']['c']=fn(self,d){}}"),
+        ("goto a ::a::", "{goto a ::a}"),
+        ("break a = 1", "{break a=1}"),
+        ("return;", "{return }"),
+    ];
+    answers(&rt, rt.alloc(), table.as_slice())
+}
+
+#[test]
+fn statements_with_blocks(rt: HostRuntime) -> Result<(), Fail> {
+    let table = [
         ("do end", "{do{}}"),
         ("do a = 1 end b = 2", "{do{a=1} b=2}"),
         ("while a do b() end", "{while a{call b()}}"),
@@ -123,17 +146,10 @@ fn statements(rt: HostRuntime) -> Result<(), Fail> {
         ("for i = 1, 2, 3 do break end", "{for i=1,2,3{break}}"),
         ("for k, v in pairs(t) do end", "{for k,v in pairs(t){}}"),
         ("for k in a, b do end", "{for k in a,b{}}"),
-        ("goto a ::a::", "{goto a ::a}"),
-        ("break a = 1", "{break a=1}"),
-        ("return;", "{return }"),
         ("do return 1; end", "{do{return 1}}"),
         ("if a then return end", "{if a{return }}"),
     ];
-    for (text, tree) in table {
-        let got = answer(rt.alloc(), text.as_bytes())?;
-        assert_eq!(rt; got.as_slice(), tree.as_bytes(), "{text}");
-    }
-    Ok(())
+    answers(&rt, rt.alloc(), table.as_slice())
 }
 
 #[test]
@@ -170,11 +186,7 @@ fn refusals(rt: HostRuntime) -> Result<(), Fail> {
         ("goto 1", "unexpected 5"),
         ("f{} = 1", "unexpected 4"),
     ];
-    for (text, refusal) in table {
-        let got = answer(rt.alloc(), text.as_bytes())?;
-        assert_eq!(rt; got.as_slice(), refusal.as_bytes(), "{text}");
-    }
-    Ok(())
+    answers(&rt, rt.alloc(), table.as_slice())
 }
 
 /// `return` and a 1 in so many parentheses.

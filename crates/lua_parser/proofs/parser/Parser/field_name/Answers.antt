@@ -12,21 +12,21 @@ use Rattle.lua_parser.proofs.parser.Parser.field_name.Goals as goal
 pub returns-in_ok-had-in_default : goal.returns-in_ok-had-in_default
 returns-in_ok-had-in_default c =
     let ns = c.args.self.now.nodes in
-    let u = purpose_in ns c.args.purpose in
-    let fs = fields_of (tree_in ns) c.args.fields in
+    let u = purpose_in ns c.args.table.purpose in
+    let fs = fields_of (tree_in ns) c.args.table.fields in
     let k = stack_in c.args.self.now in
     let m = token c.args.kind in
-    let f = pushdown.InItem u c.args.first fs in
+    let f = pushdown.InItem u c.args.table.line fs in
     let n = tree.Name 0 c.args.own c.args.name in
     let t = tree_in c.add.new.self.nodes c.in_ok-had-in_default.had in
     let z = stack_in c.add.new.self in
     let stack : f ∷ k ≡ z = sym (c.in_ok-had-in_default.ensures.stack ∙ c.in_ok-push-in_default.ensures.stack) in
     let name : n ≡ t = sym c.in_ok-had-in_default.ensures.tree in
-    let at = λ (w : Bool). field_name_other u c.args.first fs c.args.own c.args.name k c.args.kind (place w c.args.line c.args.slice.now) c.in_default.not-Assign
+    let at = λ (w : Bool). field_name_other u c.args.table.line fs c.args.own c.args.name k c.args.kind (place w c.args.line c.args.slice.now) c.in_default.not-Assign
     ∙ ap (λ (x : List pushdown.Frame). pushdown.follow x 0 n m (place w c.args.line c.args.slice.now)) stack
     ∙ ap (λ (x : tree.Tree). pushdown.follow z 0 x m (place w c.args.line c.args.slice.now)) name in
     record {
-      gave = gave_as (pushdown.field_name u c.args.first fs c.args.own c.args.name k m (place true c.args.line c.args.slice.now)) (pushdown.follow z 0 t m (place true c.args.line c.args.slice.now))
-          (pushdown.field_name u c.args.first fs c.args.own c.args.name k m (place false c.args.line c.args.slice.now)) (pushdown.follow z 0 t m (place false c.args.line c.args.slice.now)) c.follow.result c.follow.new.self
+      gave = gave_as (pushdown.field_name u c.args.table.line fs c.args.own c.args.name k m (place true c.args.line c.args.slice.now)) (pushdown.follow z 0 t m (place true c.args.line c.args.slice.now))
+          (pushdown.field_name u c.args.table.line fs c.args.own c.args.name k m (place false c.args.line c.args.slice.now)) (pushdown.follow z 0 t m (place false c.args.line c.args.slice.now)) c.follow.result c.follow.new.self
           (at true) (at false) c.follow.ensures.gave;
     }
