@@ -78,13 +78,9 @@ impl Parser {
                 targets,
                 block,
             } => self.target_next(own, targets, block, kind, line, slice),
-            State::ReturnNext { line: own, block } => self.return_next(
-                own,
-                block,
-                Some(kind),
-                line,
-                slice,
-            ),
+            State::ReturnNext { line: own, block } => {
+                self.return_next(own, block, Some(kind), line, slice)
+            }
             State::BlockEnd { block } => self.end_block(block, Some(kind)),
             State::Done { .. } => Err(Refusal::Unexpected),
         }
