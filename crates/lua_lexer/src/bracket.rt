@@ -1,6 +1,6 @@
 //! Long brackets: long texts and comments.
 
-ghost use Rattle.std.specs.Prelude.{◌≡◌, ◌<◌, ◌≤◌, ◌+◌, ◌-◌, IsTrue, IfOk, IfSome, length, take, drop};
+ghost use Rattle.std.specs.Prelude.{◌≡◌, ◌<◌, ◌≤◌, ◌+◌, IsTrue, IfOk, IfSome, length};
 ghost use Rattle.lua_lexer.specs.Brackets.{opening, closes};
 ghost use Rattle.lua_lexer.specs.Scan.{closing, bracket_by, comment_by, IsWithin};
 ghost use Rattle.lua_lexer.specs.Values.{without_newline, long_value};

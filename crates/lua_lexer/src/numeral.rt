@@ -1,9 +1,9 @@
 //! Numerals, and the numbers that they are.
 
-ghost use Rattle.std.specs.Prelude.{◌⊎◌, ◌≡◌, ◌<◌, ◌≤◌, ◌+◌, IsTrue, length, take, drop, slice_index};
+ghost use Rattle.std.specs.Prelude.{◌⊎◌, ◌≡◌, ◌<◌, ◌≤◌, ◌+◌, IsTrue, length};
 ghost use Rattle.std.specs.Char.{is_ascii_hexdigit};
-ghost use Rattle.lua_lexer.specs.Numerals.{digit_of, value, up_to, value_as, numeral_value, lead_of, base_of, is_hexadecimal, BeginsAs};
-ghost use Rattle.lua_lexer.specs.Scan.{numeral, numeral_end, numeral_len, IsWithin};
+ghost use Rattle.lua_lexer.specs.Numerals.{digit_of, value, up_to, value_as, numeral_value, lead_of, is_hexadecimal};
+ghost use Rattle.lua_lexer.specs.Scan.{numeral, numeral_end, IsWithin};
 
 use crate::TokenKind;
 use crate::bytes::{before, behind, byte_at, digits_len, is_exponent, is_name_start};

@@ -1,7 +1,7 @@
 //! Texts between quotes.
 
-ghost use Rattle.std.specs.Prelude.{◌≡◌, ◌<◌, ◌≤◌, ◌+◌, IfOk, length, take, slice_index};
-ghost use Rattle.lua_lexer.specs.Escapes.{escaped, hex_escape, decimal_escape, escape_by, escape, part_at, IsPartWithin};
+ghost use Rattle.std.specs.Prelude.{◌≡◌, ◌<◌, ◌≤◌, ◌+◌, IfOk, length, take};
+ghost use Rattle.lua_lexer.specs.Escapes.{escaped, hex_escape, decimal_escape, escape, part_at, IsPartWithin};
 ghost use Rattle.lua_lexer.specs.Scan.{quoted_from, IsWithin};
 ghost use Rattle.lua_lexer.specs.Values.{quoted_value};
 

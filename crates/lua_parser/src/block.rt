@@ -1,6 +1,6 @@
 //! The end of a block (Lua 5.2 manual, 3.3.1, 3.3.4 and 3.3.5).
 
-ghost use Rattle.std.specs.Prelude.{◌≡◌, ◌<◌, ◌≤◌, ◌∷◌, [], ℕ, suc, true, false, length, Some, None, IfOk, OnOk};
+ghost use Rattle.std.specs.Prelude.{◌<◌, ◌∷◌, [], true, false, length, Some, None};
 ghost use Rattle.lua_ast.specs.Decode.{PartsBelow, node_tree, cases_of};
 ghost use Rattle.lua_grammar.specs.Pushdown.{end_block, block_of, InRepeat, InThen, InElse};
 ghost use Rattle.lua_parser.specs.Shown.{tree_in, stack_in, begun_in, block_in, frame_in, place, BegunBelow, CasesBelow, BlockBelow, FrameBelow};

@@ -1,13 +1,13 @@
 //! Calls and table constructors (Lua 5.2 manual, 3.4.8 and 3.4.9).
 
-ghost use Rattle.std.specs.Prelude.{◌≡◌, ◌<◌, ◌≤◌, ◌∷◌, [], ℕ, suc, true, false, length, Some, None, IfOk, OnOk};
-ghost use Rattle.lua_ast.specs.Tree.{Tree, Table, none, snoc};
+ghost use Rattle.std.specs.Prelude.{◌≡◌, ◌<◌, true, false, length, IfOk};
+ghost use Rattle.lua_ast.specs.Tree.{Table, none, snoc};
 ghost use Rattle.lua_ast.specs.Decode.{list_of, fields_of, AllBelow};
 ghost use Rattle.lua_grammar.specs.Signs.{token};
 ghost use Rattle.lua_lexer.specs.declared.token.TokenKind.TheVariants.{Text};
 ghost use Rattle.lua_grammar.specs.Pushdown.{Have, call_of, args_begin, made, field_done};
 ghost use Rattle.lua_parser.specs.Shown.{tree_in, stack_in, state_in, callee_in, purpose_in, place, CalleeBelow, TableBelow, StateBelow};
-ghost use Rattle.lua_parser.specs.Gave.{Gave, IsSmall};
+ghost use Rattle.lua_parser.specs.Gave.{Gave};
 
 use crate::frame::{BegunTable, Callee, Purpose};
 use crate::parser::Parser;

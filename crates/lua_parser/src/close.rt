@@ -1,6 +1,6 @@
 //! What goes on where an expression is over.
 
-ghost use Rattle.std.specs.Prelude.{◌≡◌, ◌<◌, ◌≤◌, ◌∷◌, [], ℕ, suc, true, false, length, Some, None, IfOk, OnOk};
+ghost use Rattle.std.specs.Prelude.{◌<◌, [], true, false, length, Some, None};
 ghost use Rattle.lua_ast.specs.Decode.{list_of, fields_of, AllBelow};
 ghost use Rattle.lua_grammar.specs.Pushdown.{InParen, InIndex, InArgs, InKey, InTargets, InLocal, InAssign, InReturn, InStat, close};
 ghost use Rattle.lua_parser.specs.Shown.{tree_in, stack_in, begun_in, callee_in, purpose_in, statement_in, place, BegunBelow, CalleeBelow, TableBelow, StatementBelow};

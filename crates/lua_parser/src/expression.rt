@@ -1,9 +1,9 @@
 //! Expressions (Lua 5.2 manual, 3.4 and section 9).
 
-ghost use Rattle.std.specs.Prelude.{◌≡◌, ◌<◌, ◌≤◌, ◌∷◌, [], ℕ, suc, true, false, length, Some, None, IfOk, OnOk};
+ghost use Rattle.std.specs.Prelude.{[], true, false, Some, None};
 ghost use Rattle.lua_grammar.specs.Signs.{token};
-ghost use Rattle.lua_grammar.specs.Pushdown.{begin, begin_unary, args_begin, args_open};
-ghost use Rattle.lua_parser.specs.Shown.{tree_in, stack_in, callee_in, place, CalleeBelow};
+ghost use Rattle.lua_grammar.specs.Pushdown.{begin, begin_unary};
+ghost use Rattle.lua_parser.specs.Shown.{stack_in, place};
 ghost use Rattle.lua_parser.specs.Gave.{Gave, IsSmall};
 
 use crate::frame::{BegunTable, Callee, Frame, Head, Purpose};

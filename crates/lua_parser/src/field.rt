@@ -1,6 +1,6 @@
 //! Arguments and fields (Lua 5.2 manual, 3.4.8 and 3.4.9).
 
-ghost use Rattle.std.specs.Prelude.{◌≡◌, ◌<◌, ◌≤◌, ◌∷◌, [], ℕ, suc, true, false, length, Some, None, IfOk, OnOk};
+ghost use Rattle.std.specs.Prelude.{◌<◌, true, false, length, Some, None};
 ghost use Rattle.lua_ast.specs.Decode.{fields_of, with_field, FieldBelow};
 ghost use Rattle.lua_grammar.specs.Signs.{token};
 ghost use Rattle.lua_grammar.specs.Pushdown.{args_open, field_next, field_done, key_end};

@@ -1,7 +1,6 @@
 //! What follows an expression.
 
-ghost use Rattle.std.specs.Prelude.{◌≡◌, ◌<◌, ◌≤◌, ◌∷◌, [], ℕ, suc, true, false, length, Some, None, IfOk, OnOk};
-ghost use Rattle.lua_ast.specs.Tree.{Name};
+ghost use Rattle.std.specs.Prelude.{◌≡◌, ◌<◌, true, false, length, Some, None, IfOk, OnOk};
 ghost use Rattle.lua_grammar.specs.Pushdown.{close, follow, rest, field_name};
 ghost use Rattle.lua_grammar.specs.Operators.{joined};
 ghost use Rattle.lua_grammar.specs.Signs.{token};

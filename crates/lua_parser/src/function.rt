@@ -1,6 +1,6 @@
 //! Functions (Lua 5.2 manual, 3.4.10).
 
-ghost use Rattle.std.specs.Prelude.{◌≡◌, ◌<◌, ◌≤◌, ◌∷◌, ◌++◌, [], ℕ, suc, true, false, length, Some, None, IfOk, OnOk};
+ghost use Rattle.std.specs.Prelude.{◌≡◌, ◌<◌, ◌∷◌, ◌++◌, [], suc, true, false, length, Some, IfOk};
 ghost use Rattle.lua_ast.specs.Tree.{Function, Assign, LocalFunction, none, snoc};
 ghost use Rattle.lua_ast.specs.Decode.{PartsBelow, node_tree};
 ghost use Rattle.lua_grammar.specs.Signs.{token};

@@ -1,6 +1,6 @@
 //! Steps that many rules share.
 
-ghost use Rattle.std.specs.Prelude.{◌≡◌, ◌<◌, ◌≤◌, ◌∷◌, [], ℕ, suc, length, Some, IfOk, IfErr, OnOk};
+ghost use Rattle.std.specs.Prelude.{◌≡◌, ◌<◌, ◌∷◌, suc, length, Some, IfOk, OnOk};
 ghost use Rattle.lua_ast.specs.Decode.{PartsBelow, node_tree};
 ghost use Rattle.lua_grammar.specs.Pushdown.{Need, BlockNext, Have, add, depth, lift, block_of};
 ghost use Rattle.lua_parser.specs.Shown.{tree_in, stack_in, state_in, begun_in, block_in, frame_in, BegunBelow, BlockBelow, FrameBelow, StateBelow};

@@ -1,8 +1,8 @@
 //! The nodes and frames of a text that is being read.
 
-ghost use Rattle.std.specs.Prelude.{◌≡◌, ◌<◌, ◌≤◌, ◌∷◌, [], ℕ, suc, length, IfOk, OnOk, IfSome, OnSome, MatchOption};
+ghost use Rattle.std.specs.Prelude.{◌≡◌, ◌<◌, ◌≤◌, ◌∷◌, [], ℕ, length, IfOk, OnOk, IfSome, OnSome, MatchOption};
 ghost use Rattle.lua_ast.specs.Tree.{line_of};
-ghost use Rattle.lua_ast.specs.Decode.{PartsBelow, AllBelow, node_tree, list_of};
+ghost use Rattle.lua_ast.specs.Decode.{PartsBelow, node_tree};
 ghost use Rattle.lua_grammar.specs.Grammar.{is_var, is_call, is_prefix};
 ghost use Rattle.lua_grammar.specs.Pushdown.{level_of, depth};
 ghost use Rattle.lua_parser.specs.declared.frame.Begun.{Begun as begun};

@@ -1,6 +1,6 @@
 //! What kinds of expressions the grammar tells apart (Lua 5.2 manual, section 9).
 
-ghost use Rattle.std.specs.Prelude.{◌≡◌, ◌<◌, ℕ, length};
+ghost use Rattle.std.specs.Prelude.{◌≡◌, ℕ};
 ghost use Rattle.lua_ast.specs.Tree.{Tree};
 ghost use Rattle.lua_ast.specs.Decode.{node_tree};
 ghost use Rattle.lua_grammar.specs.Grammar.{is_var, is_call, is_prefix};

@@ -1,6 +1,6 @@
 //! A stack of frames.
 
-ghost use Rattle.std.specs.Prelude.{◌≡◌, ◌≤◌, ◌∷◌, ◌++◌, [], ℕ, suc, reverse, OnOk, OnErr, IfNone, MatchOption};
+ghost use Rattle.std.specs.Prelude.{◌≡◌, ◌≤◌, ◌∷◌, [], reverse, OnOk, OnErr, IfNone, MatchOption};
 ghost use Rattle.lua_parser.specs.Depth.{lift_of, depth_of};
 
 use crate::frame::Frame;

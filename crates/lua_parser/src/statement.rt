@@ -1,10 +1,10 @@
 //! Statements (Lua 5.2 manual, 3.3 and section 9).
 
-ghost use Rattle.std.specs.Prelude.{◌≡◌, ◌<◌, ◌≤◌, ◌∷◌, [], ℕ, List, suc, true, false, length, Some, None, IfOk, OnOk};
+ghost use Rattle.std.specs.Prelude.{◌≡◌, ◌∷◌, [], ℕ, List, true, false, length, Some, None, IfOk};
 ghost use Rattle.lua_ast.specs.Decode.{PartsBelow, node_tree, list_of, AllBelow};
 ghost use Rattle.lua_lexer.specs.declared.token.TokenKind.TheVariants.{In};
 ghost use Rattle.lua_grammar.specs.Signs.{token};
-ghost use Rattle.lua_grammar.specs.Pushdown.{InStat, add, next, end_block, block_of, begin, opened, Need, InParen, lift, label_end, local_next, local_names, for_name, for_names, target_next, return_next};
+ghost use Rattle.lua_grammar.specs.Pushdown.{add, next, end_block, block_of, begin, label_end, local_next, local_names, for_name, for_names, target_next, return_next};
 ghost use Rattle.lua_parser.specs.Shown.{tree_in, stack_in, begun_in, statement_in, frame_in, place, BegunBelow, StatementBelow, FrameBelow};
 ghost use Rattle.lua_parser.specs.Gave.{Gave, IsSmall, IsSmallSign, begin_prefix, next_block, mark_of};
 

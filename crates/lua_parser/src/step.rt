@@ -1,9 +1,9 @@
 //! One step of the parser.
 
-ghost use Rattle.std.specs.Prelude.{◌≡◌, ◌<◌, ◌≤◌, ◌∷◌, [], ℕ, suc, true, false, length, Some, None, IfOk, OnOk};
+ghost use Rattle.std.specs.Prelude.{[], true, false, length, Some, None};
 ghost use Rattle.lua_grammar.specs.Signs.{token, end};
 ghost use Rattle.lua_grammar.specs.Pushdown.{begun, next, step_from};
-ghost use Rattle.lua_parser.specs.Shown.{tree_in, stack_in, state_in, place, StateBelow};
+ghost use Rattle.lua_parser.specs.Shown.{stack_in, state_in, place, StateBelow};
 ghost use Rattle.lua_parser.specs.Gave.{Gave, IsSmall, mark_of};
 
 use crate::frame::Begun;

@@ -1,6 +1,6 @@
 //! What may follow an expression (Lua 5.2 manual, 3.2, 3.4.7, 3.4.9 and section 9).
 
-ghost use Rattle.std.specs.Prelude.{◌≡◌, ◌<◌, ◌≤◌, ◌∷◌, [], ℕ, suc, true, false, length, Some, None, cond, option_map};
+ghost use Rattle.std.specs.Prelude.{◌≡◌, ◌<◌, true, false, length, Some, None, cond, option_map};
 ghost use Rattle.lua_grammar.specs.Signs.{token};
 ghost use Rattle.lua_grammar.specs.Operators.{operator_of};
 ghost use Rattle.lua_grammar.specs.Grammar.{is_prefix};
