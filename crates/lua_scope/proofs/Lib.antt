@@ -13,3 +13,4 @@ pub mod Plain
 pub mod PlainRefusals
 pub mod Loading
 mod OneAnswer
+mod EveryText

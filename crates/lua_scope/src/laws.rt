@@ -1,6 +1,6 @@
 //! Laws of what names mean. Each function does nothing, and its contract is the law.
 
-ghost use Rattle.std.specs.Prelude.{◌≡◌, ℕ, List, []};
+ghost use Rattle.std.specs.Prelude.{◌≡◌, ◌⊎◌, ℕ, List, []};
 ghost use Rattle.std.specs.List.Sorted.{IsStrictlyIncreasing};
 ghost use Rattle.lua_scope.specs.declared.event.Event.{Event as EventOf};
 ghost use Rattle.lua_ast.specs.Tree.{Tree};
@@ -21,11 +21,12 @@ pub fn numbers_refuse_nothing()
     ensures { (t : Tree) → first_refusal (history [] (without_numbers t)) ≡ first_refusal (history [] t) }
 {}
 
-/// A text loads as one tree at most and has one refusal at most, and never both.
+/// Every text loads, as one tree, or has one refusal, and never both. A text is any list of numbers here.
 pub fn one_answer()
     ensures trees { (text : List ℕ) (s t : Tree) → LoadsAs text s → LoadsAs text t → s ≡ t }
     ensures apart { (text : List ℕ) (e : ErrorOf) → Loads text → LoadFails text e → ⊥ }
     ensures refusals { (text : List ℕ) (d e : ErrorOf) → LoadFails text d → LoadFails text e → d ≡ e }
+    ensures all { (text : List ℕ) → Loads text ⊎ ((e : ErrorOf) × LoadFails text e) }
 {
     lua_lexer::laws::one_reading();
     lua_grammar::one_reading();
