@@ -17,7 +17,7 @@ declared [] = 0
 declared (event.Declare _ count ∷ h) = declared h + count
 declared (_ ∷ h) = declared h
 
--- the number of the first variable that a node has named; a node that has named none has 0
+-- The number of the first variable that a node has named. A function without parameters has the number at which its own variables begin, a node that has declared nothing 0.
 unfoldable pub first_variable : List Event → ℕ → ℕ
 first_variable [] i = 0
 first_variable (event.Declare j _ ∷ h) i = if j == i then declared h else first_variable h i
