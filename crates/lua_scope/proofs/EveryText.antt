@@ -14,7 +14,7 @@ use Rattle.lua_scope.specs.declared.load_error.LoadError.{LoadError}
 use Rattle.lua_scope.specs.declared.load_error.LoadError.TheVariants as error
 use Rattle.lua_scope.specs.History.{history}
 use Rattle.lua_scope.specs.Refusals.{first_refusal}
-use Rattle.lua_scope.specs.Loads.{most_text, HasTokensOf, LoadsAs, Loads, LoadFails, too_long, no_tokens, no_text, breaks_a_rule, scope_error}
+use Rattle.lua_scope.specs.Loads.{most_text, HasTokensOf, Loads, LoadFails, too_long, no_tokens, no_text, breaks_a_rule, scope_error}
 
 -- What the layers below are known for.
 abbrev pub Lexed : List ℕ → Type 0
@@ -60,6 +60,6 @@ by-tokens some text short (inr f) = inr (error.Lex f.0, no_tokens f.0 refl short
 
 pub every-text : ((text : List ℕ) → Lexed text) → SomeReading → (text : List ℕ) → Answered text
 every-text lexed some text = elim (leb_tells (length text) most_text) [
-    inl short ↦ by-tokens some text short.1 (lexed text)
+  | inl short ↦ by-tokens some text short.1 (lexed text)
   | inr long ↦ inr (error.TextTooLong (length text), too_long refl long.1)
-  ]
+]

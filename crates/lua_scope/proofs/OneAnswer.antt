@@ -1,5 +1,5 @@
 -- A text loads as one tree or has one refusal. What the lexer and the grammar say of their answers is a parameter.
-use Rattle.std.proofs.Common.{◌≡◌, ◌≢◌, ℕ, suc, ◌<◌, ◌≤◌, List, [], length, Option, Some, None, refl, sym, ap, subst, ◌∙◌, slice_get, arith}
+use Rattle.std.proofs.Common.{◌≡◌, ◌≢◌, ℕ, ◌≤◌, List, [], length, Some, None, refl, sym, ap, subst, ◌∙◌, slice_get, arith}
 use Rattle.lua_lexer.specs.declared.token.Token.{Token}
 use Rattle.lua_lexer.specs.declared.lex_error.LexError.{LexError}
 use Rattle.lua_lexer.specs.Lexes.{Lexes, LexFails}
@@ -8,7 +8,6 @@ use Rattle.lua_grammar.specs.Parses.{Parses, Reading, parsed, unexpected, too_de
 use Rattle.lua_parser.specs.declared.parse_error.ParseError.{ParseError}
 use Rattle.lua_parser.specs.declared.parse_error.ParseError.TheVariants as parse_error
 use Rattle.lua_parser.specs.Parsing.{IsRefusal}
-use Rattle.lua_scope.specs.declared.refusal.Refusal.{Refusal}
 use Rattle.lua_scope.specs.declared.load_error.LoadError.{LoadError}
 use Rattle.lua_scope.specs.declared.load_error.LoadError.TheVariants as error
 use Rattle.lua_scope.specs.History.{history}

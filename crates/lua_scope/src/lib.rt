@@ -8,6 +8,8 @@ mod event;
 mod frame;
 pub mod laws;
 mod load_error;
+#[cfg(test)]
+mod load_tests;
 mod node_tasks;
 mod numbers;
 mod parsed;

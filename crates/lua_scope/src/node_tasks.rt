@@ -1,11 +1,14 @@
 //! What a node leaves to be done.
 
-ghost use Rattle.std.specs.Prelude.{◌≡◌, IfOk};
-ghost use Rattle.lua_scope.specs.Tasks.{tasks_of};
+ghost use Rattle.std.specs.Prelude.{◌≡◌, ◌∷◌, ◌++◌, [], true, false, length, IfOk};
+ghost use Rattle.lua_scope.specs.declared.task.Task.TheVariants as task;
+ghost use Rattle.lua_scope.specs.declared.event.Event.TheVariants as event;
+ghost use Rattle.lua_scope.specs.declared.event.Opening.TheVariants as opening;
+ghost use Rattle.lua_scope.specs.Tasks.{tasks_of, visits, maybe_task, case_tasks, field_tasks};
 
 use crate::event::{Event, Opening};
 use crate::task::{Task, Tasks, copy_name};
-use lua_ast::{Node, NodeId};
+use lua_ast::{AstText, AstTexts, Fields, Ids, Node, NodeId};
 use std::alloc::{AllocError, Global};
 
 /// The tasks of a node, in text order.
@@ -17,180 +20,271 @@ pub(crate) fn node_tasks(
 ) -> Result<Tasks, AllocError>
     ensures { IfOk result (λ tasks. tasks ≡ tasks_of id line node.now) }
 {
-    let mut tasks = Tasks::new(alloc);
     match node {
-        Node::Block { .. } => {
-            let repeats = false;
-            tasks.push(Task::Body { node: id, repeats })?;
-            tasks.emit(Event::Close)?;
-            Ok(tasks)
-        }
-        Node::Local { names, exps } => {
-            let count = names.len();
-            tasks.emit(Event::Declare { node: id, count })?;
-            tasks.visit_all(exps)?;
-            tasks.enter(alloc, id, names)?;
-            Ok(tasks)
-        }
-        Node::Assign { targets, exps } => {
-            tasks.visit_all(targets)?;
-            tasks.visit_all(exps)?;
-            Ok(tasks)
-        }
-        Node::CallStat { call } => {
-            tasks.visit(*call)?;
-            Ok(tasks)
-        }
-        Node::Do { block } => {
-            tasks.visit(*block)?;
-            Ok(tasks)
-        }
-        Node::While { test, block } => {
-            tasks.visit(*test)?;
-            tasks.emit(Event::Open {
-                opening: Opening::Loop,
-            })?;
-            tasks.visit(*block)?;
-            tasks.emit(Event::Close)?;
-            Ok(tasks)
-        }
-        Node::Repeat { block, test } => {
-            tasks.emit(Event::Open {
-                opening: Opening::Loop,
-            })?;
-            let repeats = true;
-            tasks.push(Task::Body {
-                node: *block,
-                repeats,
-            })?;
-            tasks.visit(*test)?;
-            tasks.emit(Event::Close)?;
-            tasks.emit(Event::Close)?;
-            Ok(tasks)
-        }
+        Node::Block { .. } => block_tasks(alloc, id),
+        Node::Local { names, exps } => local_tasks(alloc, id, names, exps),
+        Node::Assign { targets, exps } => assign_tasks(alloc, targets, exps),
+        Node::CallStat { call } => one_node(alloc, *call),
+        Node::Do { block } => one_node(alloc, *block),
+        Node::While { test, block } => while_tasks(alloc, *test, *block),
+        Node::Repeat { block, test } => repeat_tasks(alloc, *block, *test),
         Node::If {
             tests,
             blocks,
             otherwise,
-        } => {
-            tasks.visit_cases(tests, blocks)?;
-            tasks.visit_any(otherwise)?;
-            Ok(tasks)
-        }
+        } => if_tasks(alloc, tests, blocks, otherwise),
         Node::NumFor {
             name,
             first,
             limit,
             step,
             block,
-        } => {
-            tasks.emit(Event::Declare { node: id, count: 1 })?;
-            tasks.visit(*first)?;
-            tasks.visit(*limit)?;
-            tasks.visit_any(step)?;
-            tasks.emit(Event::Open {
-                opening: Opening::Loop,
-            })?;
-            tasks.enter_one(alloc, id, name)?;
-            tasks.visit(*block)?;
-            tasks.emit(Event::Close)?;
-            Ok(tasks)
-        }
-        Node::GenFor { names, exps, block } => {
-            let count = names.len();
-            tasks.emit(Event::Declare { node: id, count })?;
-            tasks.visit_all(exps)?;
-            tasks.emit(Event::Open {
-                opening: Opening::Loop,
-            })?;
-            tasks.enter(alloc, id, names)?;
-            tasks.visit(*block)?;
-            tasks.emit(Event::Close)?;
-            Ok(tasks)
-        }
-        Node::LocalFunction { name, function } => {
-            tasks.emit(Event::Declare { node: id, count: 1 })?;
-            tasks.enter_one(alloc, id, name)?;
-            tasks.visit(*function)?;
-            Ok(tasks)
-        }
-        Node::Return { exps } => {
-            tasks.visit_all(exps)?;
-            Ok(tasks)
-        }
-        Node::Break => {
-            tasks.emit(Event::Break { line })?;
-            Ok(tasks)
-        }
-        Node::Goto { label } => {
-            let label = copy_name(alloc, label)?;
-            tasks.emit(Event::Goto { line, label })?;
-            Ok(tasks)
-        }
-        Node::Label { .. } => Ok(tasks),
-        Node::Const { .. } => Ok(tasks),
-        Node::Vararg => {
-            tasks.emit(Event::Vararg { line })?;
-            Ok(tasks)
-        }
+        } => num_for_tasks(alloc, id, name, *first, *limit, step, *block),
+        Node::GenFor { names, exps, block } => gen_for_tasks(alloc, id, names, exps, *block),
+        Node::LocalFunction { name, function } => local_function_tasks(alloc, id, name, *function),
+        Node::Return { exps } => return_tasks(alloc, exps),
+        Node::Break => one_event(alloc, Event::Break { line }),
+        Node::Goto { label } => goto_tasks(alloc, line, label),
+        Node::Label { .. } => Ok(Tasks::new(alloc)),
+        Node::Const { .. } => Ok(Tasks::new(alloc)),
+        Node::Vararg => one_event(alloc, Event::Vararg { line }),
         Node::Function {
             params,
             vararg,
             block,
-        } => {
-            let opening = Opening::Function {
-                node: id,
-                vararg: *vararg,
-            };
-            tasks.emit(Event::Open { opening })?;
-            let count = params.len();
-            tasks.emit(Event::Declare { node: id, count })?;
-            tasks.enter(alloc, id, params)?;
-            tasks.visit(*block)?;
-            tasks.emit(Event::Close)?;
-            Ok(tasks)
-        }
-        Node::Name { text } => {
-            let name = copy_name(alloc, text)?;
-            tasks.emit(Event::Use { node: id, name })?;
-            Ok(tasks)
-        }
-        Node::Index { object, key } => {
-            tasks.visit(*object)?;
-            tasks.visit(*key)?;
-            Ok(tasks)
-        }
-        Node::Call { function, args } => {
-            tasks.visit(*function)?;
-            tasks.visit_all(args)?;
-            Ok(tasks)
-        }
-        Node::Method { object, args, .. } => {
-            tasks.visit(*object)?;
-            tasks.visit_all(args)?;
-            Ok(tasks)
-        }
-        Node::Binary { left, right, .. } => {
-            tasks.visit(*left)?;
-            tasks.visit(*right)?;
-            Ok(tasks)
-        }
-        Node::Logic { left, right, .. } => {
-            tasks.visit(*left)?;
-            tasks.visit(*right)?;
-            Ok(tasks)
-        }
-        Node::Unary { operand, .. } => {
-            tasks.visit(*operand)?;
-            Ok(tasks)
-        }
-        Node::Paren { inner } => {
-            tasks.visit(*inner)?;
-            Ok(tasks)
-        }
-        Node::Table { fields } => {
-            tasks.visit_fields(fields)?;
-            Ok(tasks)
-        }
+        } => function_tasks(alloc, id, params, *vararg, *block),
+        Node::Name { text } => name_tasks(alloc, id, text),
+        Node::Index { object, key } => two_nodes(alloc, *object, *key),
+        Node::Call { function, args } => call_tasks(alloc, *function, args),
+        Node::Method { object, args, .. } => call_tasks(alloc, *object, args),
+        Node::Binary { left, right, .. } => two_nodes(alloc, *left, *right),
+        Node::Logic { left, right, .. } => two_nodes(alloc, *left, *right),
+        Node::Unary { operand, .. } => one_node(alloc, *operand),
+        Node::Paren { inner } => one_node(alloc, *inner),
+        Node::Table { fields } => table_tasks(alloc, fields),
     }
+}
+
+fn one_event(alloc: Global, event: Event) -> Result<Tasks, AllocError>
+    ensures { IfOk result (λ tasks. tasks ≡ task.Emit event ∷ []) }
+{
+    let mut tasks = Tasks::new(alloc);
+    tasks.emit(event)?;
+    Ok(tasks)
+}
+
+fn one_node(alloc: Global, node: NodeId) -> Result<Tasks, AllocError>
+    ensures { IfOk result (λ tasks. tasks ≡ task.Visit node ∷ []) }
+{
+    let mut tasks = Tasks::new(alloc);
+    tasks.visit(node)?;
+    Ok(tasks)
+}
+
+fn two_nodes(alloc: Global, first: NodeId, second: NodeId) -> Result<Tasks, AllocError>
+    ensures { IfOk result (λ tasks. tasks ≡ task.Visit first ∷ task.Visit second ∷ []) }
+{
+    let mut tasks = Tasks::new(alloc);
+    tasks.visit(first)?;
+    tasks.visit(second)?;
+    Ok(tasks)
+}
+
+fn block_tasks(alloc: Global, id: NodeId) -> Result<Tasks, AllocError>
+    ensures { IfOk result (λ tasks. tasks ≡ task.Body id false ∷ task.Emit event.Close ∷ []) }
+{
+    let mut tasks = Tasks::new(alloc);
+    let repeats = false;
+    tasks.push(Task::Body { node: id, repeats })?;
+    tasks.emit(Event::Close)?;
+    Ok(tasks)
+}
+
+fn local_tasks(alloc: Global, id: NodeId, names: &AstTexts, exps: &Ids) -> Result<Tasks, AllocError>
+    ensures { IfOk result (λ tasks. tasks ≡ task.Emit (event.Declare id (length names.now))
+        ∷ (visits exps.now ++ task.Emit (event.Enter id names.now) ∷ [])) }
+{
+    let mut tasks = Tasks::new(alloc);
+    let count = names.len();
+    tasks.emit(Event::Declare { node: id, count })?;
+    tasks.visit_all(exps)?;
+    tasks.enter(alloc, id, names)?;
+    Ok(tasks)
+}
+
+fn local_function_tasks(
+    alloc: Global,
+    id: NodeId,
+    name: &AstText,
+    function: NodeId,
+) -> Result<Tasks, AllocError>
+    ensures { IfOk result (λ tasks. tasks ≡ task.Emit (event.Declare id 1)
+        ∷ task.Emit (event.Enter id (name.now ∷ [])) ∷ task.Visit function ∷ []) }
+{
+    let mut tasks = Tasks::new(alloc);
+    tasks.emit(Event::Declare { node: id, count: 1 })?;
+    tasks.enter_one(alloc, id, name)?;
+    tasks.visit(function)?;
+    Ok(tasks)
+}
+
+fn assign_tasks(alloc: Global, targets: &Ids, exps: &Ids) -> Result<Tasks, AllocError>
+    ensures { IfOk result (λ tasks. tasks ≡ visits targets.now ++ visits exps.now) }
+{
+    let mut tasks = Tasks::new(alloc);
+    tasks.visit_all(targets)?;
+    tasks.visit_all(exps)?;
+    Ok(tasks)
+}
+
+fn if_tasks(
+    alloc: Global,
+    tests: &Ids,
+    blocks: &Ids,
+    otherwise: &Option<NodeId>,
+) -> Result<Tasks, AllocError>
+    ensures { IfOk result (λ tasks. tasks ≡ case_tasks tests.now blocks.now ++ maybe_task otherwise.now) }
+{
+    let mut tasks = Tasks::new(alloc);
+    tasks.visit_cases(tests, blocks)?;
+    tasks.visit_any(otherwise)?;
+    Ok(tasks)
+}
+
+fn while_tasks(alloc: Global, test: NodeId, block: NodeId) -> Result<Tasks, AllocError>
+    ensures { IfOk result (λ tasks. tasks ≡ task.Visit test
+        ∷ task.Emit (event.Open opening.Loop) ∷ task.Visit block ∷ task.Emit event.Close ∷ []) }
+{
+    let mut tasks = Tasks::new(alloc);
+    tasks.visit(test)?;
+    tasks.open_loop()?;
+    tasks.visit(block)?;
+    tasks.emit(Event::Close)?;
+    Ok(tasks)
+}
+
+fn repeat_tasks(alloc: Global, block: NodeId, test: NodeId) -> Result<Tasks, AllocError>
+    ensures { IfOk result (λ tasks. tasks ≡ task.Emit (event.Open opening.Loop)
+        ∷ task.Body block true ∷ task.Visit test ∷ task.Emit event.Close ∷ task.Emit event.Close ∷ []) }
+{
+    let mut tasks = Tasks::new(alloc);
+    tasks.open_loop()?;
+    let repeats = true;
+    tasks.push(Task::Body {
+        node: block,
+        repeats,
+    })?;
+    tasks.visit(test)?;
+    tasks.emit(Event::Close)?;
+    tasks.emit(Event::Close)?;
+    Ok(tasks)
+}
+
+fn num_for_tasks(
+    alloc: Global,
+    id: NodeId,
+    name: &AstText,
+    first: NodeId,
+    limit: NodeId,
+    step: &Option<NodeId>,
+    block: NodeId,
+) -> Result<Tasks, AllocError>
+    ensures { IfOk result (λ tasks. tasks ≡ task.Emit (event.Declare id 1) ∷ task.Visit first ∷ task.Visit limit
+        ∷ (maybe_task step.now ++ task.Emit (event.Open opening.Loop)
+        ∷ task.Emit (event.Enter id (name.now ∷ [])) ∷ task.Visit block ∷ task.Emit event.Close ∷ [])) }
+{
+    let mut tasks = Tasks::new(alloc);
+    tasks.emit(Event::Declare { node: id, count: 1 })?;
+    tasks.visit(first)?;
+    tasks.visit(limit)?;
+    tasks.visit_any(step)?;
+    tasks.open_loop()?;
+    tasks.enter_one(alloc, id, name)?;
+    tasks.visit(block)?;
+    tasks.emit(Event::Close)?;
+    Ok(tasks)
+}
+
+fn gen_for_tasks(
+    alloc: Global,
+    id: NodeId,
+    names: &AstTexts,
+    exps: &Ids,
+    block: NodeId,
+) -> Result<Tasks, AllocError>
+    ensures { IfOk result (λ tasks. tasks ≡ task.Emit (event.Declare id (length names.now))
+        ∷ (visits exps.now ++ task.Emit (event.Open opening.Loop)
+        ∷ task.Emit (event.Enter id names.now) ∷ task.Visit block ∷ task.Emit event.Close ∷ [])) }
+{
+    let mut tasks = Tasks::new(alloc);
+    let count = names.len();
+    tasks.emit(Event::Declare { node: id, count })?;
+    tasks.visit_all(exps)?;
+    tasks.open_loop()?;
+    tasks.enter(alloc, id, names)?;
+    tasks.visit(block)?;
+    tasks.emit(Event::Close)?;
+    Ok(tasks)
+}
+
+fn function_tasks(
+    alloc: Global,
+    id: NodeId,
+    params: &AstTexts,
+    vararg: bool,
+    block: NodeId,
+) -> Result<Tasks, AllocError>
+    ensures { IfOk result (λ tasks. tasks ≡ task.Emit (event.Open (opening.Function id vararg))
+        ∷ task.Emit (event.Declare id (length params.now)) ∷ task.Emit (event.Enter id params.now)
+        ∷ task.Visit block ∷ task.Emit event.Close ∷ []) }
+{
+    let mut tasks = Tasks::new(alloc);
+    let opening = Opening::Function { node: id, vararg };
+    tasks.emit(Event::Open { opening })?;
+    let count = params.len();
+    tasks.emit(Event::Declare { node: id, count })?;
+    tasks.enter(alloc, id, params)?;
+    tasks.visit(block)?;
+    tasks.emit(Event::Close)?;
+    Ok(tasks)
+}
+
+fn return_tasks(alloc: Global, exps: &Ids) -> Result<Tasks, AllocError>
+    ensures { IfOk result (λ tasks. tasks ≡ visits exps.now) }
+{
+    let mut tasks = Tasks::new(alloc);
+    tasks.visit_all(exps)?;
+    Ok(tasks)
+}
+
+fn goto_tasks(alloc: Global, line: u32, label: &AstText) -> Result<Tasks, AllocError>
+    ensures { IfOk result (λ tasks. tasks ≡ task.Emit (event.Goto line label.now) ∷ []) }
+{
+    let label = copy_name(alloc, label)?;
+    one_event(alloc, Event::Goto { line, label })
+}
+
+fn name_tasks(alloc: Global, id: NodeId, text: &AstText) -> Result<Tasks, AllocError>
+    ensures { IfOk result (λ tasks. tasks ≡ task.Emit (event.Use id text.now) ∷ []) }
+{
+    let name = copy_name(alloc, text)?;
+    one_event(alloc, Event::Use { node: id, name })
+}
+
+/// The tasks of a call, and of a method's call on its object.
+fn call_tasks(alloc: Global, function: NodeId, args: &Ids) -> Result<Tasks, AllocError>
+    ensures { IfOk result (λ tasks. tasks ≡ task.Visit function ∷ visits args.now) }
+{
+    let mut tasks = Tasks::new(alloc);
+    tasks.visit(function)?;
+    tasks.visit_all(args)?;
+    Ok(tasks)
+}
+
+fn table_tasks(alloc: Global, fields: &Fields) -> Result<Tasks, AllocError>
+    ensures { IfOk result (λ tasks. tasks ≡ field_tasks fields.now) }
+{
+    let mut tasks = Tasks::new(alloc);
+    tasks.visit_fields(fields)?;
+    Ok(tasks)
 }

@@ -3,9 +3,10 @@
 ghost use Rattle.std.specs.Prelude.{◌≡◌, ◌∷◌, ◌++◌, [], IfOk};
 ghost use Rattle.lua_scope.specs.declared.task.Task.TheVariants as task;
 ghost use Rattle.lua_scope.specs.declared.event.Event.TheVariants as event;
+ghost use Rattle.lua_scope.specs.declared.event.Opening.TheVariants as opening;
 ghost use Rattle.lua_scope.specs.Tasks.{visits, field_tasks, case_tasks, maybe_task};
 
-use crate::event::Event;
+use crate::event::{Event, Opening};
 use lua_ast::{AstText, AstTexts, Field, Fields, Ids, NodeId};
 use std::alloc::{AllocError, Global};
 use std::marker::Model;
@@ -67,6 +68,14 @@ impl Tasks {
         ensures { IfOk result (λ _. self.new ≡ self.old ++ task.Emit event ∷ []) }
     {
         self.push(Task::Emit(event))
+    }
+
+    /// The turns of a loop begin.
+    pub(crate) fn open_loop(&mut self) -> Result<(), AllocError>
+        ensures { IfOk result (λ _. self.new ≡ self.old ++ task.Emit (event.Open opening.Loop) ∷ []) }
+    {
+        let opening = Opening::Loop;
+        self.emit(Event::Open { opening })
     }
 
     /// The variables of these names come into scope.

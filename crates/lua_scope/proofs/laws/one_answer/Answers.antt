@@ -1,4 +1,3 @@
-use Rattle.lua_scope.specs.Loads.{LoadsAs}
 use Rattle.lua_scope.proofs.OneAnswer.{one-tree, loads-or-fails, one-error}
 use Rattle.lua_scope.proofs.EveryText.{every-text}
 use Rattle.lua_scope.proofs.laws.one_answer.Goals as goal
