@@ -223,12 +223,13 @@ fn functions_capture(rt: HostRuntime) -> Result<(), Fail> {
     Ok(())
 }
 
-/// Statements and expressions of all kinds: 148 nodes and 12 variables.
+/// Statements and expressions of all kinds: 151 nodes and 12 variables.
 const EVERYTHING: &str = r#"local a, b = 1, "two"
 local c
 a, b.x, c[1] = nil, true, false
 print(a)
 b:m "s" {1}
+b:n()
 do end
 while a < 1 do break end
 repeat local d = a until d
@@ -247,7 +248,7 @@ return a * b / 2 % 3 ^ 4, function(r) return c end
 "#;
 
 const EVERYTHING_MEANS: &str = "a local 0; b local 1; c captured 2; \
-    print global; a local 0; b local 1; a local 0; a local 0; d local 3; \
+    print global; a local 0; b local 1; b local 1; a local 0; a local 0; d local 3; \
     a local 0; a local 0; b local 1; c captured 2; \
     a local 0; a local 0; i local 4; \
     pairs global; b local 1; b local 1; k local 6; v local 7; \
@@ -262,7 +263,7 @@ const EVERYTHING_MEANS: &str = "a local 0; b local 1; c captured 2; \
 fn everything_loads(rt: HostRuntime) -> Result<(), Fail> {
     let parsed = loaded(rt.alloc(), EVERYTHING)?;
     assert!(rt; parsed.text() == EVERYTHING.as_bytes());
-    assert_eq!(rt; parsed.chunk().len(), 148);
+    assert_eq!(rt; parsed.chunk().len(), 151);
     let got = meanings(rt.alloc(), &parsed)?;
     assert_eq!(rt; got.as_slice(), EVERYTHING_MEANS.as_bytes());
     let got = captured_variables(rt.alloc(), &parsed)?;
