@@ -6,6 +6,8 @@ mod Scanning
 mod Blocks
 mod Stepping
 pub mod Reversed
+pub mod NameTables
+pub mod Naming
 mod Resolving
 mod Runs
 mod Rising

@@ -3,6 +3,8 @@ pub mod History
 pub mod Tasks
 pub mod Walking
 pub mod Scanned
+pub mod ByName
+pub mod Visible
 pub mod Scope
 pub mod Variables
 pub mod Refusals

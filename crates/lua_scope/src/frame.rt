@@ -11,6 +11,14 @@ pub(crate) struct Variable {
     pub number: u32,
 }
 
+/// A variable in scope, and what its name meant where it came into scope.
+#[derive(Debug, Drop)]
+pub(crate) struct Entered {
+    pub variable: Variable,
+    /// The number of the variable that it hides, if it hides one.
+    pub hidden: Option<u32>,
+}
+
 /// Something that is open.
 #[derive(Debug, Drop)]
 pub(crate) struct Frame {

@@ -22,6 +22,7 @@ mod scoped;
 mod task;
 #[cfg(test)]
 mod tests;
+mod visible;
 mod walk;
 
 pub use load_error::LoadError;

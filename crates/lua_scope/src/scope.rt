@@ -6,9 +6,9 @@ ghost use Rattle.lua_scope.specs.Variables.{variable_named};
 ghost use Rattle.lua_scope.specs.Refusals.{target, jump as jump_of, in_loop as in_loop_of, has_varargs as has_varargs_of, refusal_in};
 
 use crate::event::{Event, Label, Opening};
-use crate::frame::{Frame, Variable};
+use crate::frame::Frame;
 use crate::refusal::Refusal;
-use crate::task::copy_name;
+use crate::visible::VisibleVariables;
 use lua_ast::{AstText, AstTexts};
 use std::alloc::{AllocError, Global};
 use std::marker::Model;
@@ -16,7 +16,7 @@ use std::marker::Model;
 /// The variables in scope and what is open, each in the order of the text.
 #[derive(Debug, Drop)]
 pub(crate) struct Scope {
-    variables: Vec<Variable>,
+    variables: VisibleVariables,
     frames: Vec<Frame>,
 }
 
@@ -25,7 +25,7 @@ impl Model for Scope {
 
     ghost Value = { ScopeState };
 
-    ghost view = { λ scope. record { variables = scope.variables.items; frames = scope.frames.items } };
+    ghost view = { λ scope. record { variables = scope.variables; frames = scope.frames.items } };
 }
 
 impl Scope {
@@ -35,7 +35,7 @@ impl Scope {
         ensures frames { result.frames ≡ [] }
     {
         Scope {
-            variables: Vec::new(alloc),
+            variables: VisibleVariables::new(alloc),
             frames: Vec::new(alloc),
         }
     }
@@ -68,8 +68,7 @@ impl Scope {
     {
         let mut number = first;
         for name in names.as_slice() {
-            let name = copy_name(alloc, name)?;
-            self.variables.push(Variable { name, number })?;
+            self.variables.enter(alloc, name, number)?;
             number += 1;
         }
         Ok(())
@@ -86,12 +85,7 @@ impl Scope {
     pub(crate) fn variable(&self, name: &AstText) -> Option<u32>
         ensures { result ≡ variable_named name.now self.now.variables }
     {
-        let found = self
-            .variables
-            .iter()
-            .rev()
-            .find(|v| v.name.as_slice() == name.as_slice());
-        found.map(|variable| variable.number)
+        self.variables.meaning(name)
     }
 
     /// What the event is refused for at this place, if it is.
