@@ -8,6 +8,7 @@ mod Stepping
 pub mod Reversed
 pub mod NameTables
 pub mod Naming
+pub mod Targets
 mod Resolving
 mod Runs
 mod Rising

@@ -4,6 +4,7 @@ pub mod Tasks
 pub mod Walking
 pub mod Scanned
 pub mod ByName
+pub mod FirstLabels
 pub mod Visible
 pub mod Scope
 pub mod Variables

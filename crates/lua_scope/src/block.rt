@@ -13,15 +13,16 @@ ghost use Rattle.lua_scope.specs.Scanned.{locals_in, label_name, block_stats, st
 ghost use Rattle.lua_scope.specs.declared.task.Task.TheVariants as task;
 ghost use Rattle.lua_scope.specs.declared.event.Event.TheVariants as event;
 
-use crate::event::{Event, Label, Opening};
-use crate::task::{Task, Tasks, copy_name};
-use lua_ast::{AstText, Chunk, Ids, Node, NodeId, Sequence};
+use crate::event::{Event, Opening};
+use crate::labels::BlockLabels;
+use crate::task::{Task, Tasks};
+use lua_ast::{AstText, Chunk, Ids, Node, NodeId};
 use std::alloc::{AllocError, Global};
 
 /// A block's statements so far.
 #[derive(Debug, Drop)]
 pub(crate) struct Statements {
-    labels: Sequence<Label>,
+    labels: BlockLabels,
     /// How many labels have other statements behind them.
     inside: usize,
     /// How many locals the statements declare.
@@ -38,15 +39,6 @@ fn count_locals(node: &Node) -> usize
         Node::LocalFunction { .. } => 1,
         _ => 0,
     }
-}
-
-/// Whether one of the labels has this name.
-fn has_label(labels: &[Label], name: &AstText) -> bool
-    ensures { result ≡ list_any (has_name name.now) labels.now }
-{
-    labels
-        .iter()
-        .any(|label| label.name.as_slice() == name.as_slice())
 }
 
 /// The name of a label.
@@ -67,7 +59,7 @@ impl Statements {
         ensures tasks { result.tasks ≡ [] }
     {
         Statements {
-            labels: Sequence::new(alloc),
+            labels: BlockLabels::new(alloc),
             inside: 0,
             locals: 0,
             tasks: Tasks::new(alloc),
@@ -84,10 +76,8 @@ impl Statements {
             then self.old.tasks ++ task.Emit (event.SecondLabel line) ∷ []
             else self.old.tasks)) }
     {
-        let second = has_label(self.labels.as_slice(), label);
-        let name = copy_name(alloc, label)?;
-        let locals = self.locals;
-        self.labels.push(Label { name, locals })?;
+        let second = self.labels.contains(label);
+        self.labels.push(alloc, label, self.locals)?;
         if second {
             self.tasks.emit(Event::SecondLabel { line })?;
         }

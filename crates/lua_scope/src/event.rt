@@ -1,6 +1,7 @@
 //! What the scope rules see of a text, in text order.
 
-use lua_ast::{AstText, AstTexts, NodeId, Sequence};
+use crate::labels::BlockLabels;
+use lua_ast::{AstText, AstTexts, NodeId};
 
 /// A label of a block.
 #[derive(Debug, Drop)]
@@ -15,17 +16,11 @@ pub(crate) struct Label {
 pub(crate) enum Opening {
     /// A block, with its labels. Statements other than labels follow the first `inside` of them;
     /// the others lie outside the block's locals.
-    Block {
-        labels: Sequence<Label>,
-        inside: usize,
-    },
+    Block { labels: BlockLabels, inside: usize },
     /// A loop's turns, around its block.
     Loop,
     /// A function, around its parameters and its block.
-    Function {
-        node: NodeId,
-        vararg: bool,
-    },
+    Function { node: NodeId, vararg: bool },
 }
 
 /// A step of the walk through a text from left to right.

@@ -6,6 +6,7 @@ mod block;
 mod capture;
 mod event;
 mod frame;
+mod labels;
 pub mod laws;
 mod load_error;
 #[cfg(test)]

@@ -5,7 +5,7 @@ ghost use Rattle.lua_scope.specs.Scope.{opened, closed, entered};
 ghost use Rattle.lua_scope.specs.Variables.{variable_named};
 ghost use Rattle.lua_scope.specs.Refusals.{target, jump as jump_of, in_loop as in_loop_of, has_varargs as has_varargs_of, refusal_in};
 
-use crate::event::{Event, Label, Opening};
+use crate::event::{Event, Opening};
 use crate::frame::Frame;
 use crate::refusal::Refusal;
 use crate::visible::VisibleVariables;
@@ -123,7 +123,7 @@ impl Scope {
         for frame in self.frames.iter().rev() {
             match &frame.opening {
                 Opening::Block { labels, inside } => {
-                    if let Some(there) = find_label(labels.as_slice(), *inside, label) {
+                    if let Some(there) = labels.target(*inside, label) {
                         let into_local = here.saturating_sub(frame.begins) < there;
                         return into_local.then_some(Refusal::JumpsIntoLocal { line });
                     }
@@ -163,17 +163,4 @@ impl Scope {
         }
         true
     }
-}
-
-/// How many of its block's locals are in scope at the first label of this name. The first `inside`
-/// labels lie inside the block's locals.
-fn find_label(labels: &[Label], inside: usize, name: &AstText) -> Option<usize>
-    ensures { result ≡ target name.now inside labels.now }
-{
-    for (i, label) in labels.iter().enumerate() {
-        if label.name.as_slice() == name.as_slice() {
-            return Some(if i < inside { label.locals } else { 0 });
-        }
-    }
-    None
 }
