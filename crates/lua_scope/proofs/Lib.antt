@@ -12,6 +12,7 @@ pub mod Targets
 mod Resolving
 mod Runs
 mod Rising
+mod NumberSets
 pub mod Plain
 pub mod PlainRefusals
 pub mod Loading

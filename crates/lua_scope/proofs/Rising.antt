@@ -10,7 +10,7 @@ use Rattle.lua_scope.specs.declared.frame.Frame.{Frame}
 use Rattle.lua_scope.specs.Scope.{scope, first_variable}
 use Rattle.lua_scope.specs.Variables.{meaning, captures, is_function, place_in, with_number, with_use, with_meaning, captured_by}
 
-abbrev put : ℕ → List ℕ → List ℕ
+abbrev pub put : ℕ → List ℕ → List ℕ
 put v [] = v ∷ []
 put v (w ∷ ws) = cond (nat_lt w v) (w ∷ put v ws) (v ∷ w ∷ ws)
 
@@ -21,7 +21,7 @@ put_by v w n ws more e true =
     let next : 1 + n ≡ suc n = omega arith
     in ap (λ (m : ℕ). insert (w ∷ ws) (length (take m (w ∷ ws))) v) next ∙ ap (λ (us : List ℕ). w ∷ us) e
 
-insert_put : (v : ℕ) (ws : List ℕ) → insert ws (place_in v ws) v ≡ put v ws
+pub insert_put : (v : ℕ) (ws : List ℕ) → insert ws (place_in v ws) v ≡ put v ws
 insert_put v [] = refl
 insert_put v (w ∷ ws) = put_by v w (prefix_len (λ u. nat_lt u v) ws) ws (put v ws) (insert_put v ws) (nat_lt w v)
 

@@ -20,6 +20,7 @@ mod resolver;
 mod run;
 mod scope;
 mod scoped;
+mod tables;
 mod task;
 #[cfg(test)]
 mod tests;

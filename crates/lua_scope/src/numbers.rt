@@ -1,23 +1,29 @@
-//! A rising list of numbers.
+//! Rising lists of numbers.
 
-ghost use Rattle.std.specs.Prelude.{◌≡◌, ◌≤◌, [], length, IfOk};
-ghost use Rattle.lua_scope.specs.Variables.{with_number, place_in};
+ghost use Rattle.std.specs.Prelude.{◌≡◌, [], IfOk};
+ghost use Rattle.lua_scope.specs.Variables.{with_number};
 
+use lua_ast::Sequence;
 use std::alloc::{AllocError, Global};
+use std::collections::BTreeSet;
 use std::marker::Model;
 
 /// Numbers of variables, rising.
 #[derive(Debug, Drop)]
 pub(crate) struct Numbers {
-    items: Vec<u32>,
+    numbers: BTreeSet<u32>,
 }
 
 impl Model for Numbers {
     ghost use Rattle.std.specs.Prelude.{List, ℕ};
+    ghost use Rattle.std.specs.List.Sorted.{IsStrictlySortedBy};
+    ghost use Rattle.std.specs.Ordering.{nat_cmp};
 
     ghost Value = { List ℕ };
 
-    ghost view = { λ numbers. numbers.items.items };
+    ghost view = { λ numbers. numbers.numbers.keys };
+
+    ghost invariant = { λ numbers. IsStrictlySortedBy nat_cmp numbers.numbers.keys };
 }
 
 impl Numbers {
@@ -26,33 +32,23 @@ impl Numbers {
         ensures { result ≡ [] }
     {
         Numbers {
-            items: Vec::new(alloc),
+            numbers: BTreeSet::new(alloc),
         }
-    }
-
-    pub(crate) fn as_slice(&self) -> &[u32]
-        ensures { result.now ≡ self.now }
-    {
-        self.items.as_slice()
     }
 
     /// Puts a number at its place, unless it is there.
     pub(crate) fn put(&mut self, number: u32) -> Result<(), AllocError>
         ensures { IfOk result (λ _. self.new ≡ with_number number self.old) }
     {
-        if self.items.contains(&number) {
-            return Ok(());
-        }
-        let place = self.place(number);
-        self.items.insert(place, number)?;
+        self.numbers.insert(number)?;
         Ok(())
     }
 
-    /// How many numbers come before this one.
-    fn place(&self, number: u32) -> usize
-        ensures place { result ≡ place_in number self.now }
-        ensures within { result ≤ length self.now }
+    /// The numbers as a vector.
+    pub(crate) fn into_sequence(self, alloc: Global) -> Result<Sequence<u32>, AllocError>
+        ensures { IfOk result (λ sequence. sequence ≡ self) }
     {
-        self.items.iter().take_while(|item| **item < number).count()
+        let items: Vec<u32> = self.numbers.into_iter().collect(alloc)?;
+        Ok(Sequence::from_vec(items))
     }
 }

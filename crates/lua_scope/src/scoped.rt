@@ -9,8 +9,8 @@ ghost use Rattle.lua_scope.specs.OfChunk.{history_of};
 
 use crate::place::Place;
 use crate::refusal::ScopeError;
-use crate::resolver::Resolver;
 use crate::run::run;
+use crate::tables::{Tables, tables_of};
 use lua_ast::{Chunk, NodeId};
 use std::alloc::Global;
 use std::marker::Model;
@@ -21,14 +21,14 @@ use std::marker::Model;
 #[derive(Debug, Drop)]
 pub struct ScopedChunk {
     chunk: Chunk,
-    tables: Resolver,
+    tables: Tables,
 }
 
 impl Model for ScopedChunk {
     ghost use Rattle.std.specs.Prelude.{◌≡◌, length, None};
     ghost use Rattle.lua_ast.specs.Decode.{ChunkNodes};
     ghost use Rattle.lua_scope.specs.Refusals.{first_refusal};
-    ghost use Rattle.lua_scope.specs.Resolved.{Resolved};
+    ghost use Rattle.lua_scope.specs.Resolved.{Tells};
     ghost use Rattle.lua_scope.specs.OfChunk.{history_of};
 
     ghost Value = { ChunkNodes };
@@ -36,7 +36,7 @@ impl Model for ScopedChunk {
     ghost view = { λ scoped. scoped.chunk };
 
     ghost invariant = { λ scoped.
-        Resolved (length scoped.chunk.nodes) scoped.tables (history_of scoped.chunk)
+        Tells (length scoped.chunk.nodes) scoped.tables (history_of scoped.chunk)
         × (first_refusal (history_of scoped.chunk) ≡ None) };
 }
 
@@ -50,7 +50,8 @@ impl ScopedChunk {
         ensures refused { IfErr result (λ error.
             TellsRefusal error (first_refusal (history_of chunk))) }
     {
-        let tables = run(alloc, &chunk)?;
+        let resolver = run(alloc, &chunk)?;
+        let tables = tables_of(alloc, resolver)?;
         Ok(ScopedChunk { chunk, tables })
     }
 
