@@ -62,6 +62,17 @@ fn small_chunk(alloc: Global) -> Result<Chunk, AllocError> {
     Ok(nodes.finish(block))
 }
 
+/// A block of these three statements.
+fn block(alloc: Global, first: NodeId, second: NodeId, third: NodeId) -> Result<Node, AllocError>
+    ensures { IfOk result (λ node. (n : ℕ) → first < n → second < n → third < n → PartsBelow n node) }
+{
+    let mut stats = Ids::new(alloc);
+    stats.push(first)?;
+    stats.push(second)?;
+    stats.push(third)?;
+    Ok(Node::Block { stats })
+}
+
 fn kind(node: &Node) -> &'static str {
     match node {
         Node::Const { .. } => "const",
@@ -71,6 +82,7 @@ fn kind(node: &Node) -> &'static str {
         Node::Binary { .. } => "binary",
         Node::Return { .. } => "return",
         Node::Block { .. } => "block",
+        Node::Break => "break",
         Node::Vararg => "vararg",
         _ => "another",
     }
@@ -129,6 +141,38 @@ fn builder_reads_what_it_has(rt: HostRuntime) -> Result<(), Fail> {
     assert_eq!(rt; nodes.len(), 2);
     assert_eq!(rt; kind(nodes.node(dots)), "vararg");
     assert_eq!(rt; nodes.line(inner), 4);
+    Ok(())
+}
+
+/// 300 statements, each on a line of its own, and a block of three of them.
+#[test]
+fn many_nodes_are_read(rt: HostRuntime) -> Result<(), Fail> {
+    let mut nodes = ChunkBuilder::new(rt.alloc());
+    for line in 1..301 {
+        nodes.push(Node::Break, line)?;
+    }
+    assert_eq!(rt; nodes.len(), 300);
+    let parts = block(
+        rt.alloc(),
+        NodeId::new(0),
+        NodeId::new(150),
+        NodeId::new(299),
+    )?;
+    let root = nodes.push(parts, 301)?;
+    assert_eq!(rt; root.number(), 300);
+    assert_eq!(rt; nodes.len(), 301);
+    for number in 0..300 {
+        let id = NodeId::new(number);
+        assert_eq!(rt; kind(nodes.node(id)), "break");
+        assert_eq!(rt; nodes.line(id), number + 1);
+    }
+    assert_eq!(rt; nodes.line(root), 301);
+    let Node::Block { stats } = nodes.node(root) else {
+        return Err(Fail::from("no block"));
+    };
+    assert_eq!(rt; stats.len(), 3);
+    assert_eq!(rt; stats.get(1).map(NodeId::number), Some(150));
+    assert_eq!(rt; stats.get(2).map(NodeId::number), Some(299));
     Ok(())
 }
 
