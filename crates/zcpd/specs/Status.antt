@@ -1,5 +1,7 @@
--- The numbers with which a process ends.
+-- The numbers with which a process ends, and how a run ends that has no document.
 use Rattle.std.specs.Prelude.{ℕ}
+use Rattle.zcpd.specs.declared.document.error.DocError.{DocError}
+use Rattle.zcpd.specs.declared.document.error.DocError.TheVariants.{NotBuilt, NoMemory}
 use Rattle.zcpd.specs.declared.status.Status.{Status}
 use Rattle.zcpd.specs.declared.status.Status.TheVariants as status
 
@@ -11,3 +13,7 @@ code_of (status.NotEnabled i) = 4
 code_of status.ReadFault = 5
 code_of status.WriteFault = 6
 code_of status.NoMemory = 7
+
+abbrev pub refusal_status : DocError → Status
+refusal_status NotBuilt = status.BadDocument NotBuilt
+refusal_status NoMemory = status.NoMemory

@@ -26,11 +26,7 @@ fn output_of(alloc: Global, bytes: &[u8]) -> Result<Vec<u8>, Status>
     requires { length bytes.now ≤ most_bytes }
     ensures { MatchResult result (λ output. IsAnswer Asked.Replay bytes.now output.items) (λ status. Explains Asked.Replay bytes.now status) }
 {
-    let document = match read_document(alloc, bytes, Need::Schedule) {
-        Ok(document) => document,
-        Err(DocError::NotBuilt) => return Err(Status::BadDocument(DocError::NotBuilt)),
-        Err(DocError::NoMemory) => return Err(Status::NoMemory),
-    };
+    let document = read_document(alloc, bytes, Need::Schedule)?;
     let Ok(tree) = PlainTree::new(alloc, &document.pool) else {
         return Err(Status::NoMemory);
     };
@@ -63,11 +59,7 @@ fn check_of(alloc: Global, bytes: &[u8]) -> Result<Vec<u8>, Status>
     requires { length bytes.now ≤ most_bytes }
     ensures { MatchResult result (λ output. IsAnswer Asked.Check bytes.now output.items) (λ status. Explains Asked.Check bytes.now status) }
 {
-    let document = match read_document(alloc, bytes, Need::Any) {
-        Ok(document) => document,
-        Err(DocError::NotBuilt) => return Err(Status::BadDocument(DocError::NotBuilt)),
-        Err(DocError::NoMemory) => return Err(Status::NoMemory),
-    };
+    let document = read_document(alloc, bytes, Need::Any)?;
     match check(alloc, &document) {
         Ok(output) => Ok(output),
         Err(_) => Err(Status::NoMemory),

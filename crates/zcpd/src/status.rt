@@ -42,6 +42,21 @@ impl Status {
     }
 }
 
+/// How a run ends that has no document.
+impl From<DocError> for Status {
+    ghost use Rattle.std.specs.Prelude.{◌≡◌};
+    ghost use Rattle.zcpd.specs.Status.{refusal_status};
+
+    ghost from_gives = { λ error status. status ≡ refusal_status error };
+
+    fn from(error: DocError) -> Status {
+        match error {
+            DocError::NotBuilt => Status::BadDocument(DocError::NotBuilt),
+            DocError::NoMemory => Status::NoMemory,
+        }
+    }
+}
+
 /// The fault line.
 impl fmt::Display for Status {
     fn fmt<W: fmt::Write>(&self, f: &mut fmt::Formatter<W>) -> fmt::Result {

@@ -9,6 +9,8 @@ use lua_scope::LoadError;
 use std::test::Fail;
 use zc_io::{MemSink, MemSource, SureSink, SureSource};
 
+mod programs;
+
 const ROOM: usize = 4096;
 
 const EMPTY: &str =
