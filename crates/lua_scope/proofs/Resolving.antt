@@ -56,14 +56,16 @@ pub resolved_quiet : (n : ℕ) (old new : Resolver) (e : Event) (h : List Event)
     → Resolved n old h → Resolved n new (e ∷ h)
 resolved_quiet n old new e h q s d f m c k r = record {
   scope_is = s;
-  declared_is = d ∙ (r.declared_is ∙ sym q.declared_same);
-  first_count = ap (λ (v : Vec ℕ Global). length v.items) f ∙ r.first_count;
-  first_is = λ i. ap (λ (v : Vec ℕ Global). get_or v.items i 0) f ∙ (r.first_is i ∙ sym (q.first_same i));
-  meaning_count = ap (λ (v : Vec (Option ℕ) Global). length v.items) m ∙ r.meaning_count;
-  meaning_is = λ i. ap (λ (v : Vec (Option ℕ) Global). get_or v.items i None) m ∙ (r.meaning_is i ∙ sym (q.variable_same i));
-  captured_count = ap (λ (v : Vec Numbers Global). length v.items) c ∙ r.captured_count;
-  captured_is = λ i l. ap (λ (v : Vec Numbers Global). get_or v.items i []) c ∙ (r.captured_is i l ∙ sym (q.captured_same i));
-  flag_is = λ v. ap (λ (w : Vec Bool Global). get_or w.items v false) k ∙ (r.flag_is v ∙ sym (q.flag_same v));
+  tells = record {
+    declared_is = d ∙ (r.tells.declared_is ∙ sym q.declared_same);
+    first_count = ap (λ (v : Vec ℕ Global). length v.items) f ∙ r.tells.first_count;
+    first_is = λ i. ap (λ (v : Vec ℕ Global). get_or v.items i 0) f ∙ (r.tells.first_is i ∙ sym (q.first_same i));
+    meaning_count = ap (λ (v : Vec (Option ℕ) Global). length v.items) m ∙ r.tells.meaning_count;
+    meaning_is = λ i. ap (λ (v : Vec (Option ℕ) Global). get_or v.items i None) m ∙ (r.tells.meaning_is i ∙ sym (q.variable_same i));
+    captured_count = ap (λ (v : Vec Numbers Global). length v.items) c ∙ r.tells.captured_count;
+    captured_is = λ i l. ap (λ (v : Vec Numbers Global). get_or v.items i []) c ∙ (r.tells.captured_is i l ∙ sym (q.captured_same i));
+    flag_is = λ v. ap (λ (w : Vec Bool Global). get_or w.items v false) k ∙ (r.tells.flag_is v ∙ sym (q.flag_same v));
+  };
 }
 
 -- A place of a list that is set, by a test of the place.
@@ -79,16 +81,18 @@ pub resolved_declare : (n : ℕ) (old new : Resolver) (j count : ℕ) (h : List 
 unfolding scope declared first_variable variable_of captured_by is_captured
 resolved_declare n old new j count h less s d f m c k r = record {
   scope_is = s ∙ r.scope_is;
-  declared_is = d ∙ ap (λ (m : ℕ). m + count) r.declared_is;
-  first_count = ap (λ (xs : List ℕ). length xs) f ∙ (length-set old.first.items j old.declared ∙ r.first_count);
-  first_is = λ i.
-      ap (λ (xs : List ℕ). get_or xs i 0) f ∙ (set_at old.first.items j i old.declared 0 less
-      ∙ (ap (λ (m : ℕ). (if j == i then m else get_or old.first.items i 0)) r.declared_is ∙ ap (λ (m : ℕ). (if j == i then declared h else m)) (r.first_is i)));
-  meaning_count = ap (λ (v : Vec (Option ℕ) Global). length v.items) m ∙ r.meaning_count;
-  meaning_is = λ i. ap (λ (v : Vec (Option ℕ) Global). get_or v.items i None) m ∙ r.meaning_is i;
-  captured_count = ap (λ (v : Vec Numbers Global). length v.items) c ∙ r.captured_count;
-  captured_is = λ i l. ap (λ (v : Vec Numbers Global). get_or v.items i []) c ∙ r.captured_is i l;
-  flag_is = λ v. ap (λ (w : Vec Bool Global). get_or w.items v false) k ∙ r.flag_is v;
+  tells = record {
+    declared_is = d ∙ ap (λ (m : ℕ). m + count) r.tells.declared_is;
+    first_count = ap (λ (xs : List ℕ). length xs) f ∙ (length-set old.first.items j old.declared ∙ r.tells.first_count);
+    first_is = λ i.
+        ap (λ (xs : List ℕ). get_or xs i 0) f ∙ (set_at old.first.items j i old.declared 0 less
+        ∙ (ap (λ (m : ℕ). (if j == i then m else get_or old.first.items i 0)) r.tells.declared_is ∙ ap (λ (m : ℕ). (if j == i then declared h else m)) (r.tells.first_is i)));
+    meaning_count = ap (λ (v : Vec (Option ℕ) Global). length v.items) m ∙ r.tells.meaning_count;
+    meaning_is = λ i. ap (λ (v : Vec (Option ℕ) Global). get_or v.items i None) m ∙ r.tells.meaning_is i;
+    captured_count = ap (λ (v : Vec Numbers Global). length v.items) c ∙ r.tells.captured_count;
+    captured_is = λ i l. ap (λ (v : Vec Numbers Global). get_or v.items i []) c ∙ r.tells.captured_is i l;
+    flag_is = λ v. ap (λ (w : Vec Bool Global). get_or w.items v false) k ∙ r.tells.flag_is v;
+  };
 }
 
 module _ (f g : ℕ → ℕ) (same : (i : ℕ) → f i ≡ g i) where
@@ -126,24 +130,26 @@ resolved_use n old new j x h less s d f m cn c k r =
     in let frames : old.scope.frames ≡ (scope h).frames = ap (λ (z : ScopeState). z.frames) r.scope_is
     in record {
       scope_is = s ∙ r.scope_is;
-      declared_is = d ∙ r.declared_is;
-      first_count = ap (λ (v : Vec ℕ Global). length v.items) f ∙ r.first_count;
-      first_is = λ i. ap (λ (v : Vec ℕ Global). get_or v.items i 0) f ∙ r.first_is i;
-      meaning_count = ap (λ (xs : List (Option ℕ)). length xs) m ∙ (length-set old.meanings.items j (variable_named x old.scope.variables) ∙ r.meaning_count);
-      meaning_is = λ i.
-          ap (λ (xs : List (Option ℕ)). get_or xs i None) m ∙ (set_at old.meanings.items j i (variable_named x old.scope.variables) None less
-          ∙ (ap (λ (o : Option ℕ). (if j == i then o else get_or old.meanings.items i None)) means ∙ ap (λ (o : Option ℕ). (if j == i then meaning h x else o)) (r.meaning_is i)));
-      captured_count = cn ∙ r.captured_count;
-      captured_is = λ i l.
-          c i (subst (λ (m : ℕ). i < m) (sym r.captured_count) l)
-          ∙ (same_with_meaning (λ (i : ℕ). get_or old.first.items i 0) (first_variable h) r.first_is i (variable_named x old.scope.variables) (get_or old.captured.items i []) old.scope.frames
-          ∙ (ap (λ (o : Option ℕ). with_meaning (first_variable h) i o (get_or old.captured.items i []) old.scope.frames) means
-          ∙ (ap (λ (vs : List ℕ). with_meaning (first_variable h) i (meaning h x) vs old.scope.frames) (r.captured_is i l)
-          ∙ ap (λ (fs : List Frame). with_meaning (first_variable h) i (meaning h x) (captured_by h i) fs) frames)));
-      flag_is = λ v.
-          k v
-          ∙ (ap (λ (b : Bool). also b (variable_named x old.scope.variables) v || get_or old.is_captured.items v false)
-          (same_captured_in (λ (i : ℕ). get_or old.first.items i 0) (first_variable h) r.first_is v old.scope.frames ∙ ap (λ (fs : List Frame). captured_in (first_variable h) v fs) frames)
-          ∙ (ap (λ (o : Option ℕ). also (captured_in (first_variable h) v (scope h).frames) o v || get_or old.is_captured.items v false) means
-          ∙ ap (λ (b : Bool). also (captured_in (first_variable h) v (scope h).frames) (meaning h x) v || b) (r.flag_is v)));
+      tells = record {
+        declared_is = d ∙ r.tells.declared_is;
+        first_count = ap (λ (v : Vec ℕ Global). length v.items) f ∙ r.tells.first_count;
+        first_is = λ i. ap (λ (v : Vec ℕ Global). get_or v.items i 0) f ∙ r.tells.first_is i;
+        meaning_count = ap (λ (xs : List (Option ℕ)). length xs) m ∙ (length-set old.meanings.items j (variable_named x old.scope.variables) ∙ r.tells.meaning_count);
+        meaning_is = λ i.
+            ap (λ (xs : List (Option ℕ)). get_or xs i None) m ∙ (set_at old.meanings.items j i (variable_named x old.scope.variables) None less
+            ∙ (ap (λ (o : Option ℕ). (if j == i then o else get_or old.meanings.items i None)) means ∙ ap (λ (o : Option ℕ). (if j == i then meaning h x else o)) (r.tells.meaning_is i)));
+        captured_count = cn ∙ r.tells.captured_count;
+        captured_is = λ i l.
+            c i (subst (λ (m : ℕ). i < m) (sym r.tells.captured_count) l)
+            ∙ (same_with_meaning (λ (i : ℕ). get_or old.first.items i 0) (first_variable h) r.tells.first_is i (variable_named x old.scope.variables) (get_or old.captured.items i []) old.scope.frames
+            ∙ (ap (λ (o : Option ℕ). with_meaning (first_variable h) i o (get_or old.captured.items i []) old.scope.frames) means
+            ∙ (ap (λ (vs : List ℕ). with_meaning (first_variable h) i (meaning h x) vs old.scope.frames) (r.tells.captured_is i l)
+            ∙ ap (λ (fs : List Frame). with_meaning (first_variable h) i (meaning h x) (captured_by h i) fs) frames)));
+        flag_is = λ v.
+            k v
+            ∙ (ap (λ (b : Bool). also b (variable_named x old.scope.variables) v || get_or old.is_captured.items v false)
+            (same_captured_in (λ (i : ℕ). get_or old.first.items i 0) (first_variable h) r.tells.first_is v old.scope.frames ∙ ap (λ (fs : List Frame). captured_in (first_variable h) v fs) frames)
+            ∙ (ap (λ (o : Option ℕ). also (captured_in (first_variable h) v (scope h).frames) o v || get_or old.is_captured.items v false) means
+            ∙ ap (λ (b : Bool). also (captured_in (first_variable h) v (scope h).frames) (meaning h x) v || b) (r.tells.flag_is v)));
+      };
     }

@@ -66,7 +66,7 @@ number_case : (v : ℕ) (ws : List ℕ) (b : Bool) → list_any (λ (u : ℕ). u
 number_case v ws true is r = r
 number_case v ws false is r = subst (λ (us : List ℕ). Rises us) (sym (insert_put v ws)) (put_rises v ws r is)
 
-pub with_number_rises : (v : ℕ) (ws : List ℕ) → Rises ws → Rises (with_number v ws)
+with_number_rises : (v : ℕ) (ws : List ℕ) → Rises ws → Rises (with_number v ws)
 with_number_rises v ws r = number_case v ws (list_any (λ (u : ℕ). u == v) ws) refl r
 
 choice_rises : (v : ℕ) (ws : List ℕ) (b : Bool) → Rises ws → Rises (if b then with_number v ws else ws)
@@ -102,7 +102,7 @@ increasing_from x (y ∷ ys) r (suc k) h =
     let next : suc k + 1 ≡ suc (k + 1) = omega arith
     in subst (λ (m : ℕ). slice_index (y ∷ ys) k < slice_index (x ∷ y ∷ ys) m) (sym next) (increasing_from y ys r.1 k (omega arith))
 
-pub increasing : (xs : List ℕ) → Rises xs → IsStrictlyIncreasing xs
+increasing : (xs : List ℕ) → Rises xs → IsStrictlyIncreasing xs
 increasing [] r = λ k h. absurd (omega arith)
 increasing (x ∷ xs) r = increasing_from x xs r
 

@@ -26,14 +26,16 @@ pub resolved_none : (n : ℕ) (r : Resolver) → r.scope.variables ≡ [] → r.
 unfolding scope declared first_variable variable_of captured_by is_captured
 resolved_none n r v fr d f m c k = record {
   scope_is = ap (λ (vs : List Variable). record { variables = vs; frames = r.scope.frames }) v ∙ ap (λ (fs : List Frame). record { variables = []; frames = fs }) fr;
-  declared_is = d;
-  first_count = ap (λ (xs : List ℕ). length xs) f ∙ length-replicate n 0;
-  first_is = λ i. ap (λ (xs : List ℕ). get_or xs i 0) f ∙ default_there n i 0;
-  meaning_count = ap (λ (xs : List (Option ℕ)). length xs) m ∙ length-replicate n None;
-  meaning_is = λ i. ap (λ (xs : List (Option ℕ)). get_or xs i None) m ∙ default_there n i None;
-  captured_count = ap (λ (xs : List Numbers). length xs) c ∙ length-replicate n [];
-  captured_is = λ i l. ap (λ (xs : List Numbers). get_or xs i []) c ∙ default_there n i [];
-  flag_is = λ v. ap (λ (xs : List Bool). get_or xs v false) k;
+  tells = record {
+    declared_is = d;
+    first_count = ap (λ (xs : List ℕ). length xs) f ∙ length-replicate n 0;
+    first_is = λ i. ap (λ (xs : List ℕ). get_or xs i 0) f ∙ default_there n i 0;
+    meaning_count = ap (λ (xs : List (Option ℕ)). length xs) m ∙ length-replicate n None;
+    meaning_is = λ i. ap (λ (xs : List (Option ℕ)). get_or xs i None) m ∙ default_there n i None;
+    captured_count = ap (λ (xs : List Numbers). length xs) c ∙ length-replicate n [];
+    captured_is = λ i l. ap (λ (xs : List Numbers). get_or xs i []) c ∙ default_there n i [];
+    flag_is = λ v. ap (λ (xs : List Bool). get_or xs v false) k;
+  };
 }
 
 -- The first refusal stays the first.

@@ -9,7 +9,7 @@ use Rattle.lua_ast.specs.Decode.{ChunkNodes}
 use Rattle.lua_grammar.specs.Parses.{Parses}
 use Rattle.lua_parser.specs.declared.parse_error.ParseError.{ParseError}
 use Rattle.lua_parser.specs.declared.parse_error.ParseError.TheVariants as parse_error
-use Rattle.lua_parser.specs.Parsing.{IsRefusal, tree_of}
+use Rattle.lua_parser.specs.Parsing.{IsRefusal}
 use Rattle.lua_scope.specs.declared.refusal.Refusal.{Refusal}
 use Rattle.lua_scope.specs.declared.refusal.Refusal.TheVariants as refusal
 use Rattle.lua_scope.specs.declared.refusal.ScopeError.{ScopeError}
@@ -74,7 +74,3 @@ IsLoadFailure text e = LoadFails text e
 pub record Program : Type 0 where
   pub text : List ℕ
   pub chunk : ChunkNodes
-
--- The nodes are the text's tree.
-abbrev pub IsLoaded : Program → Type 0
-IsLoaded p = LoadsAs p.text (tree_of p.chunk)

@@ -1,5 +1,5 @@
 -- What the tables of a resolver say of a history.
-use Rattle.std.specs.Prelude.{◌≡◌, ℕ, ◌<◌, false, List, [], ◌++◌, All, length, Option, Some, None, slice_index_or}
+use Rattle.std.specs.Prelude.{◌≡◌, ℕ, ◌<◌, false, List, [], ◌++◌, All, length, Option, Some, None, Bool, slice_index_or}
 use Rattle.lua_scope.specs.declared.event.Event.{Event}
 use Rattle.lua_scope.specs.declared.resolver.Resolver.{Resolver}
 use Rattle.lua_scope.specs.declared.tables.Tables.{Tables}
@@ -11,28 +11,24 @@ use Rattle.lua_scope.specs.Refusals.{first_refusal}
 use Rattle.lua_scope.specs.Walking.{EventBelow}
 use Rattle.lua_scope.specs.Variables.{variable_of, is_captured, captured_by}
 
--- for n nodes
+-- Tables for n nodes tell what the variables of a history are.
+pub record Tells (n count : ℕ) (first : List ℕ) (meanings : List (Option ℕ)) (captured : List (List ℕ)) (flags : List Bool) (h : List Event) : Type 0 where
+  pub declared_is : count ≡ declared h
+  pub first_count : length first ≡ n
+  pub first_is : (i : ℕ) → slice_index_or first i 0 ≡ first_variable h i
+  pub meaning_count : length meanings ≡ n
+  pub meaning_is : (i : ℕ) → slice_index_or meanings i None ≡ variable_of h i
+  pub captured_count : length captured ≡ n
+  pub captured_is : (i : ℕ) → i < n → slice_index_or captured i [] ≡ captured_by h i
+  pub flag_is : (v : ℕ) → slice_index_or flags v false ≡ is_captured h v
+
 pub record Resolved (n : ℕ) (r : Resolver) (h : List Event) : Type 0 where
   pub scope_is : r.scope ≡ scope h
-  pub declared_is : r.declared ≡ declared h
-  pub first_count : length r.first.items ≡ n
-  pub first_is : (i : ℕ) → slice_index_or r.first.items i 0 ≡ first_variable h i
-  pub meaning_count : length r.meanings.items ≡ n
-  pub meaning_is : (i : ℕ) → slice_index_or r.meanings.items i None ≡ variable_of h i
-  pub captured_count : length r.captured.items ≡ n
-  pub captured_is : (i : ℕ) → i < n → slice_index_or r.captured.items i [] ≡ captured_by h i
-  pub flag_is : (v : ℕ) → slice_index_or r.is_captured.items v false ≡ is_captured h v
+  pub tells : Tells n r.declared r.first.items r.meanings.items r.captured.items r.is_captured.items h
 
--- what the tables that are left at the end say of a history
-pub record Tells (n : ℕ) (t : Tables) (h : List Event) : Type 0 where
-  pub declared_is : t.declared ≡ declared h
-  pub first_count : length t.first.items ≡ n
-  pub first_is : (i : ℕ) → slice_index_or t.first.items i 0 ≡ first_variable h i
-  pub meaning_count : length t.meanings.items ≡ n
-  pub meaning_is : (i : ℕ) → slice_index_or t.meanings.items i None ≡ variable_of h i
-  pub captured_count : length t.captured.items ≡ n
-  pub captured_is : (i : ℕ) → i < n → slice_index_or t.captured.items i [] ≡ captured_by h i
-  pub flag_is : (v : ℕ) → slice_index_or t.is_captured.items v false ≡ is_captured h v
+-- what is left of them at the end
+abbrev pub Tell : ℕ → Tables → List Event → Type 0
+Tell n t h = Tells n t.declared t.first.items t.meanings.items t.captured.items t.is_captured.items h
 
 -- A resolver in the middle of a text: `left` are the events that are still to come, the last one first, and `whole` is the history of the text.
 pub record Running (n : ℕ) (r : Resolver) (left whole : List Event) : Type 0 where

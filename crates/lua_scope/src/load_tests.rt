@@ -7,6 +7,7 @@ use lua_ast::{AstText, Node, NodeId};
 use lua_lexer::LexError;
 use lua_parser::ParseError;
 use std::alloc::{AllocError, Global};
+use std::process::Abort;
 use std::test::Fail;
 
 /// What loading a text comes to.
@@ -114,10 +115,20 @@ fn captured_variables(alloc: Global, parsed: &Parsed) -> Result<Vec<u8>, AllocEr
     Ok(out)
 }
 
+/// The names and functions of each text mean this.
+fn each_means(rt: &impl Abort, alloc: Global, table: &[(&str, &str)]) -> Result<(), Fail> {
+    for (text, told) in table {
+        let parsed = loaded(alloc, text)?;
+        let got = meanings(alloc, &parsed)?;
+        assert_eq!(rt; got.as_slice(), told.as_bytes(), "{text}");
+    }
+    Ok(())
+}
+
+/// Locals are in scope behind their own statement.
 #[test]
-fn names_mean_what_is_in_scope(rt: HostRuntime) -> Result<(), Fail> {
+fn locals_are_in_scope_up_to_the_end_of_their_block(rt: HostRuntime) -> Result<(), Fail> {
     let table = [
-        // Locals are in scope behind their own statement, up to the end of their block.
         ("local x = x", "x global; "),
         ("local x = 1 local x = x return x", "x local 0; x local 1; "),
         (
@@ -127,6 +138,13 @@ fn names_mean_what_is_in_scope(rt: HostRuntime) -> Result<(), Fail> {
         ("local x, x return x", "x local 1; "),
         ("while x do local x end return x", "x global; x global; "),
         ("if x then local x else x = 1 end", "x global; x global; "),
+    ];
+    each_means(&rt, rt.alloc(), table.as_slice())
+}
+
+#[test]
+fn loops_have_their_variables(rt: HostRuntime) -> Result<(), Fail> {
+    let table = [
         // The condition of a repeat sees the locals of its body.
         ("repeat local x until x", "x local 0; "),
         (
@@ -146,6 +164,13 @@ fn names_mean_what_is_in_scope(rt: HostRuntime) -> Result<(), Fail> {
             "for i = 1, 3 do f(function() return i end) end",
             "f global; i captured 0; function 1 captures 0; ",
         ),
+    ];
+    each_means(&rt, rt.alloc(), table.as_slice())
+}
+
+#[test]
+fn functions_have_their_variables(rt: HostRuntime) -> Result<(), Fail> {
+    let table = [
         // A local function is in scope in its own body, and a local that holds one isn't.
         (
             "local function f() return f end",
@@ -174,12 +199,7 @@ fn names_mean_what_is_in_scope(rt: HostRuntime) -> Result<(), Fail> {
             "x local 0; x local 0; x local 0; x local 0; ",
         ),
     ];
-    for (text, told) in table {
-        let parsed = loaded(rt.alloc(), text)?;
-        let got = meanings(rt.alloc(), &parsed)?;
-        assert_eq!(rt; got.as_slice(), told.as_bytes(), "{text}");
-    }
-    Ok(())
+    each_means(&rt, rt.alloc(), table.as_slice())
 }
 
 #[test]

@@ -16,8 +16,8 @@ use std::alloc::Global;
 use std::marker::Model;
 
 /// A chunk that breaks no scope rule, with the places of its names. Contracts see it as its chunk.
-/// In the chunk of a text each node is a part once; of a node that is a part twice the answers are
-/// those of its last place in the text, and a Function captures for each of its places.
+/// Of a node that is a part twice, which the parser never makes, the answers are those of its last
+/// place in the text, and a Function captures for each of its places.
 #[derive(Debug, Drop)]
 pub struct ScopedChunk {
     chunk: Chunk,
@@ -28,7 +28,7 @@ impl Model for ScopedChunk {
     ghost use Rattle.std.specs.Prelude.{◌≡◌, length, None};
     ghost use Rattle.lua_ast.specs.Decode.{ChunkNodes};
     ghost use Rattle.lua_scope.specs.Refusals.{first_refusal};
-    ghost use Rattle.lua_scope.specs.Resolved.{Tells};
+    ghost use Rattle.lua_scope.specs.Resolved.{Tell};
     ghost use Rattle.lua_scope.specs.OfChunk.{history_of};
 
     ghost Value = { ChunkNodes };
@@ -36,7 +36,7 @@ impl Model for ScopedChunk {
     ghost view = { λ scoped. scoped.chunk };
 
     ghost invariant = { λ scoped.
-        Tells (length scoped.chunk.nodes) scoped.tables (history_of scoped.chunk)
+        Tell (length scoped.chunk.nodes) scoped.tables (history_of scoped.chunk)
         × (first_refusal (history_of scoped.chunk) ≡ None) };
 }
 

@@ -2,7 +2,7 @@
 
 ghost use Rattle.std.specs.Prelude.{◌≡◌, ℕ, List, IfOk};
 ghost use Rattle.lua_scope.specs.declared.event.Event.{Event as EventOf};
-ghost use Rattle.lua_scope.specs.Resolved.{Resolved, Tells};
+ghost use Rattle.lua_scope.specs.Resolved.{Resolved, Tell};
 
 use crate::numbers::Numbers;
 use crate::resolver::Resolver;
@@ -38,7 +38,7 @@ fn sequences_of(alloc: Global, numbers: Vec<Numbers>) -> Result<Vec<Sequence<u32
 /// What is known at the end of a text.
 pub(crate) fn tables_of(alloc: Global, resolver: Resolver) -> Result<Tables, AllocError>
     ensures { IfOk result (λ tables. (n : ℕ) (h : List EventOf) →
-        Resolved n resolver h → Tells n tables h) }
+        Resolved n resolver h → Tell n tables h) }
 {
     let Resolver {
         declared,

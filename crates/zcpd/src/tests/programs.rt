@@ -1,4 +1,4 @@
-//! Checks of channel programs: texts that load, and each way in which one does not.
+//! Checks of channel programs: texts that load, and the refusals that other tests leave out.
 
 use super::run;
 use crate::Status;

@@ -25,7 +25,7 @@ returns-in-Some-refusal-clause-refused c =
 pub take-requires-clause-below : goal.take-requires-clause-below
 take-requires-clause-below c =
     let whole : List Event = history [] (tree own_number c.args.chunk.now.nodes c.args.chunk.now.root)
-    in subst (λ (n : ℕ). EventBelow n c.in-Some.event) (sym c.loop-event.invariant.tables.first_count)
+    in subst (λ (n : ℕ). EventBelow n c.in-Some.event) (sym c.loop-event.invariant.tables.tells.first_count)
     (running_below (length c.args.chunk.now.nodes) c.loop-event.resolver c.loop-event.events.items c.pop.new.self.items whole c.in-Some.event c.in-Some.ensures.items c.loop-event.invariant)
 
 pub loop-event-preserved : goal.loop-event-preserved

@@ -42,7 +42,7 @@ returns-in-Enter c = λ n h r.
     let k = c.enter.new.self
     in at_event n k h c.args.event (event.Enter c.in-Enter.node c.in-Enter.names) c.in-Enter.is
     (resolved_quiet n c.args.self.now k (event.Enter c.in-Enter.node c.in-Enter.names) h (quiet_enter c.in-Enter.node c.in-Enter.names h)
-    (c.in_ok-enter-in-Enter.ensures.scope ∙ (ap (λ (m : ℕ). entered m c.in-Enter.names c.args.self.now.scope) (r.first_is c.in-Enter.node) ∙ ap (entered (first_variable h c.in-Enter.node) c.in-Enter.names) r.scope_is))
+    (c.in_ok-enter-in-Enter.ensures.scope ∙ (ap (λ (m : ℕ). entered m c.in-Enter.names c.args.self.now.scope) (r.tells.first_is c.in-Enter.node) ∙ ap (entered (first_variable h c.in-Enter.node) c.in-Enter.names) r.scope_is))
     c.in_ok-enter-in-Enter.ensures.declared c.in_ok-enter-in-Enter.ensures.first c.in_ok-enter-in-Enter.ensures.meanings c.in_ok-enter-in-Enter.ensures.captured c.in_ok-enter-in-Enter.ensures.is_captured r)
 
 pub use_name-requires : goal.use_name-requires
