@@ -87,7 +87,8 @@ pub struct GenericFor {
     pub block: Begun,
 }
 
-/// A statement of which the last part so far is an expression.
+/// A statement of which the last part so far is an expression. `block` are the statements before it
+/// in its block.
 #[derive(Debug, Drop)]
 pub enum OpenStatement {
     /// `local a, b = ..`
@@ -128,7 +129,8 @@ pub enum OpenStatement {
     },
 }
 
-/// What stands before a block of a statement, where an expression is its last part so far.
+/// What stands before a block of a statement, where an expression is its last part so far. `block`
+/// are the statements before this one in its own block.
 #[derive(Debug, Drop)]
 pub enum OpenHeader {
     /// `while ..`
@@ -168,7 +170,8 @@ pub enum OpenHeader {
     Iterator(GenericFor),
 }
 
-/// What the block that is being read belongs to.
+/// What the block that is being read belongs to. `block` are the statements before this one in its
+/// own block.
 #[derive(Debug, Drop)]
 pub enum OpenBlock {
     Do {
@@ -207,7 +210,7 @@ pub enum OpenBlock {
 }
 
 /// What was begun. `limit` is the least level that is wanted where it stands (Lua 5.2 manual,
-/// 3.4.7). Elsewhere, `block` are the statements before a statement in its block.
+/// 3.4.7).
 #[derive(Debug, Drop)]
 pub enum Frame {
     InParen {
