@@ -6,6 +6,7 @@ pub mod Words
 pub mod LoadErrors
 pub mod Check
 pub mod Status
+pub mod FaultLines
 pub mod Replay
 pub mod Headline
 pub mod PoolLaws

@@ -59,6 +59,11 @@ impl From<DocError> for Status {
 
 /// The fault line.
 impl fmt::Display for Status {
+    ghost use Rattle.std.specs.Prelude.{Some};
+    ghost use Rattle.zcpd.specs.FaultLines.{fault_line};
+
+    ghost output = { λ status. Some (fault_line status) };
+
     fn fmt<W: fmt::Write>(&self, f: &mut fmt::Formatter<W>) -> fmt::Result {
         match *self {
             Status::Ok => Ok(()),

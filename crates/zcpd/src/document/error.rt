@@ -24,6 +24,11 @@ impl From<NoMemory> for DocError {
 }
 
 impl fmt::Display for DocError {
+    ghost use Rattle.std.specs.Prelude.{Some};
+    ghost use Rattle.zcpd.specs.FaultLines.{refusal_name};
+
+    ghost output = { λ error. Some (refusal_name error) };
+
     fn fmt<W: fmt::Write>(&self, f: &mut fmt::Formatter<W>) -> fmt::Result {
         match self {
             DocError::NotBuilt => write!(f, "NotBuilt"),
