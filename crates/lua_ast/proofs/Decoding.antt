@@ -141,9 +141,6 @@ ordered_push nodes n ok below = record {
   ];
 }
 
-pub ordered_none : Ordered []
-ordered_none = record { parts = λ i n e. absurd cc }
-
 -- The new node's tree is made of the older ones.
 pub tree_push : (number : ℕ → ℕ) (nodes : List LinedNode) (n : LinedNode) → Ordered nodes → PartsBelow (length nodes) n.node
     → tree number (nodes ++ n ∷ []) (length nodes) ≡ node_tree (tree number nodes) (number (length nodes)) n.line n.node

@@ -1,6 +1,6 @@
 //! Lists of names, of nodes and of fields.
 
-ghost use Rattle.std.specs.Prelude.{◌≡◌, ℕ, [], ◌∷◌, ◌++◌, length, slice_get, IfOk, OnOk, OnErr};
+ghost use Rattle.std.specs.Prelude.{◌≡◌, [], ◌∷◌, ◌++◌, length, slice_get, IfOk, OnOk, OnErr};
 
 use crate::node::{Field, NodeId};
 use std::alloc::{AllocError, Global};

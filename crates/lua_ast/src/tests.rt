@@ -177,7 +177,7 @@ fn many_nodes_are_read(rt: HostRuntime) -> Result<(), Fail> {
 }
 
 #[test]
-fn laws_hold() {
+fn laws_can_be_called() {
     laws::tree_of_parts();
     laws::same_parts();
     laws::trees_by_a_fold();

@@ -106,9 +106,6 @@ both false b h i = h
 pub if_true : (b : Bool) (s o : Option State) → b ≡ true → cond b s o ≡ s
 if_true b s o e = ap (λ b. cond b s o) e
 
-pub if_false : (b : Bool) (s o : Option State) → b ≡ false → cond b s o ≡ o
-if_false b s o e = ap (λ b. cond b s o) e
-
 pub prefix_is : {d : ℕ} {x y : List Sign} {t : Tree} → Prefix d x y t → is_prefix t ≡ true
 prefix_is name = refl
 prefix_is (paren _ _) = refl

@@ -2,7 +2,6 @@
 use Rattle.std.specs.Prelude.{◌≡◌, ℕ, zero, suc, true, List, [], ◌∷◌, ◌++◌, Option, Some, None, refl, take, drop, slice_get}
 use Rattle.std.proofs.Common.{◌∙◌, ap, subst}
 use Rattle.lua_lexer.specs.declared.token.Token.{Token}
-use Rattle.lua_grammar.specs.Signs.{Place}
 use Rattle.lua_grammar.specs.Pushdown.{State, BlockNext, Done, step, steps, initial}
 use Rattle.lua_grammar.specs.Parses.{counted, uncounted, signs, end_sign, Reading, Reads}
 use Rattle.lua_grammar.specs.Deciding.{run, step_by, reading_at_end, reading_by, reading_from, reading}
@@ -27,9 +26,6 @@ take-all [] zero h = refl
 take-all [] (suc n) h = refl
 take-all (u ∷ ts) zero h = cc
 take-all (u ∷ ts) (suc n) h = ap (λ y. u ∷ y) (take-all ts n h)
-
-end_place : Place
-end_place = record { counted = true; line = 1; slice = [] }
 
 end_reads : (text : List ℕ) (ts : List Token) (o : State) → run text ts ≡ Some o → (n : Option State) → step (Some o) end_sign ≡ n → Reads text ts (reading_at_end n)
 end_reads text ts o h None e = ended_none text ts o h e

@@ -1,5 +1,5 @@
 -- At the end of a text the automaton is done, or refuses it.
-use Rattle.std.specs.Prelude.{◌≡◌, List, [], ◌∷◌, Some, refl}
+use Rattle.std.specs.Prelude.{◌≡◌, List, [], ◌∷◌, Some}
 use Rattle.std.proofs.Common.{subst}
 use Rattle.lua_ast.specs.Tree as tree
 use Rattle.lua_ast.specs.Tree.{Tree, none, snoc, line_of}
@@ -13,10 +13,6 @@ use Rattle.lua_grammar.proofs.Sound.{some_is, if_is}
 abbrev pub IsDone : State → Type 0
 IsDone (Done t) = Unit {0}
 IsDone _ = ⊥
-
-pub done_tree : (z : State) → IsDone z → (t : Tree) × (z ≡ Done t)
-done_tree (Done t) h = (t, refl)
-done_tree _ h = absurd h
 
 end_block_done : (k : List Frame) (t : Tree) (i : Place) (z : State) → end_block k t kind.EndOfText i ≡ Some z → IsDone z
 end_block_done [] t i z h = subst IsDone (some_is h) tt

@@ -1,5 +1,5 @@
 //! Laws of the grammar. Each function does nothing, and its contract is the law.
-ghost use Rattle.std.specs.Prelude.{◌≡◌, ◌≤◌, ◌<◌, ℕ, Bool, List, [], ◌∷◌, ◌++◌, take, length};
+ghost use Rattle.std.specs.Prelude.{◌≡◌, ◌≤◌, ◌<◌, ℕ, Bool, List, [], ◌∷◌, ◌++◌, take};
 ghost use Rattle.lua_ast.specs.Tree.{Tree, line_of};
 ghost use Rattle.lua_lexer.specs.declared.token.Token.{Token as TokenAt};
 ghost use Rattle.lua_grammar.specs.Signs.{Mark, Sign, line_at};

@@ -13,7 +13,6 @@ use Rattle.lua_lexer.specs.Brackets.{opening, IsLong}
 use Rattle.lua_lexer.specs.Spells as spells
 use Rattle.lua_lexer.specs.Spells.{IsGap}
 use Rattle.lua_lexer.specs.Lexes as pieces
-use Rattle.lua_lexer.specs.Lexes.{Fits}
 use Rattle.lua_lexer.specs.Scan.{closing, bracket_by, comment_by, long_text, long_comment}
 use Rattle.lua_lexer.proofs.Cuts.{LongAt, long-at, long-within, long-cut, opening-cut, opening-uncut, equal}
 use Rattle.lua_lexer.proofs.Words.{run_passes, all-prefix, prefix-cut}

@@ -94,11 +94,6 @@ opening-from b rest level h =
     let second : (get_or rest level 0 == 91) ≡ true = same-test _ 91 h.second in
     rw (run, first, second) refl
 
-pub opening-len : (xs : List ℕ) (level : ℕ) → opening xs ≡ Some level → level + 2 ≤ length xs
-unfolding opening
-opening-len [] level e = absurd cc
-opening-len (b ∷ rest) level e = omega (arith, within rest level 91 (opening-is b rest level e).second (omega arith))
-
 pub opening-cut : (n : ℕ) (xs : List ℕ) (level : ℕ) → opening xs ≡ Some level → level + 2 ≤ n → opening (take n xs) ≡ Some level
 unfolding opening
 opening-cut zero xs level e h = absurd (omega arith)

@@ -18,7 +18,7 @@ use Rattle.lua_lexer.specs.declared.piece.Piece.{Piece}
 use Rattle.lua_lexer.specs.declared.piece.Piece.TheVariants as piece
 use Rattle.lua_lexer.specs.Spells.{Spells}
 use Rattle.lua_lexer.specs.Lexes as pieces
-use Rattle.lua_lexer.specs.Lexes.{Stands, Fits, LexesFrom, FailsFrom, done, gap, token, here, behind_gap, behind_token, token_at, refusal, line_at, slice_of, IsInOrder, IsSpelled, IsOnLine, IsWithinText, IsMalformed, place_of}
+use Rattle.lua_lexer.specs.Lexes.{Stands, LexesFrom, FailsFrom, done, gap, token, here, behind_gap, behind_token, token_at, refusal, IsInOrder, IsSpelled, IsOnLine, IsWithinText, IsMalformed, place_of}
 use Rattle.lua_lexer.specs.Scan.{scan}
 use Rattle.lua_lexer.proofs.Drops.{drop-past}
 use Rattle.lua_lexer.proofs.Sound.{stands, only, scan-forward}

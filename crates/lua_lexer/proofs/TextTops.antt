@@ -14,7 +14,6 @@ use Rattle.lua_lexer.specs.Escapes as escapes
 use Rattle.lua_lexer.specs.Spells as spells
 use Rattle.lua_lexer.specs.Spells.{IsQuoted}
 use Rattle.lua_lexer.specs.Lexes as pieces
-use Rattle.lua_lexer.specs.Lexes.{Fits}
 use Rattle.lua_lexer.specs.Values.{bytes_from, bytes_by}
 use Rattle.lua_lexer.specs.Scan.{quoted_from, quoted_by}
 use Rattle.lua_lexer.proofs.Drops.{drop-past}

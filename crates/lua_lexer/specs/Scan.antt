@@ -73,10 +73,6 @@ abbrev pub symbol_by : Option (TokenKind × ℕ) → Piece
 symbol_by (Some t) = Token t.0 t.1
 symbol_by None = Refused BadByte 0
 
-abbrev pub numeral_by : ℕ → Option ℕ → Piece
-numeral_by n (Some v) = Token Numeral n
-numeral_by n None = Refused TooBig 0
-
 -- a numeral of n bytes with this value, if it isn't too large; behind it stands this byte, or 0 at the end
 unfoldable pub numeral_end : Bool → ℕ → Option ℕ → ℕ → Piece
 numeral_end hex n v b =

@@ -2,8 +2,8 @@
 use Rattle.std.specs.Prelude.{◌≡◌, ℕ, List, [], ◌∷◌, ◌++◌, ◌+◌, length, refl}
 use Rattle.std.proofs.Common.{length-append}
 use Rattle.std.proofs.Common.{sym, ap, ◌∙◌}
-use Rattle.lua_ast.specs.Tree.{Tree, none, snoc, no_field, no_case}
-use Rattle.lua_ast.specs.Decode.{list_of, fields_of, cases_of}
+use Rattle.lua_ast.specs.Tree.{Tree, none, snoc, no_case}
+use Rattle.lua_ast.specs.Decode.{list_of, cases_of}
 
 pub list_of_none : (part : ℕ → Tree) → list_of part [] ≡ none
 unfolding list_of
@@ -12,10 +12,6 @@ list_of_none part = refl
 pub one_of : (part : ℕ → Tree) (i : ℕ) → list_of part ([] ++ i ∷ []) ≡ snoc none (part i)
 unfolding list_of
 one_of part i = refl
-
-pub fields_of_none : (part : ℕ → Tree) → fields_of part [] ≡ no_field
-unfolding fields_of
-fields_of_none part = refl
 
 pub cases_of_none : (part : ℕ → Tree) → cases_of part [] [] ≡ no_case
 unfolding cases_of

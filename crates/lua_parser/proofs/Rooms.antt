@@ -1,15 +1,14 @@
 -- Room for levels.
-use Rattle.std.specs.Prelude.{◌≡◌, ℕ, ◌<◌, ◌≤◌, ◌+◌, true, false, nat_le, cond, List, Some, None, refl}
+use Rattle.std.specs.Prelude.{◌≡◌, ℕ, ◌<◌, ◌≤◌, ◌+◌, true, false, nat_le, cond, List, Some, None}
 use Rattle.std.proofs.Common.{ap, sym, arith, ◌∙◌}
 use Rattle.std.proofs.lemmas.Bool.Decides.{nat_tests}
 use Rattle.lua_ast.specs.declared.node.LinedNode.{LinedNode}
 use Rattle.lua_grammar.specs.Pushdown as pushdown
 use Rattle.lua_parser.specs.declared.frame.Frame.{Frame}
 use Rattle.lua_parser.specs.declared.frame.Frame.TheVariants as frame
-use Rattle.lua_parser.specs.declared.refusal.Refusal.TheVariants.{TooDeep}
 use Rattle.lua_parser.specs.Depth.{lift_of}
 use Rattle.lua_parser.specs.Shown.{frame_in}
-use Rattle.lua_parser.specs.Gave.{Refuses, within}
+use Rattle.lua_parser.specs.Gave.{within}
 use Rattle.lua_parser.proofs.Nodes.{lift_frame}
 
 le-true : (d : ℕ) → d ≤ 200 → nat_le d 200 ≡ true
@@ -23,9 +22,6 @@ within_room d s h = ap (λ b. cond b (Some s) None) (le-true d h)
 
 pub within_deep : (d : ℕ) (s : pushdown.State) → 200 < d → within d s ≡ None
 within_deep d s h = ap (λ b. cond b (Some s) None) (le-false d h)
-
-pub refused_deep : (d : ℕ) (s : pushdown.State) → 200 < d → Refuses (within d s) (Some s) TooDeep
-refused_deep d s h = (within_deep d s h, refl)
 
 levels : (f : Frame) (d : ℕ) → lift_of f d ≡ lift_of f 0 + d
 levels (frame.InParen q l) d = omega arith

@@ -29,12 +29,6 @@ abbrev pub Gave : (counted free : Option pushdown.State) → Result State Refusa
 Gave counted free (Ok s) h = (counted ≡ Some (state_in h.nodes (stack_in h) s)) × StateBelow (length h.nodes) s
 Gave counted free (Err e) h = Refuses counted free e
 
--- The same of a step that may leave the token to what was begun before.
-abbrev pub Went : (counted free counted_rest free_rest : Option pushdown.State) → Result (Option State) Refusal → (before after : Held) → Type 0
-Went c f d g (Ok (Some s)) before h = (c ≡ Some (state_in h.nodes (stack_in h) s)) × StateBelow (length h.nodes) s
-Went c f d g (Ok None) before h = (c ≡ d) × (f ≡ g) × (h ≡ before)
-Went c f d g (Err e) before h = Refuses c f e
-
 -- A state behind so many open levels.
 abbrev pub within : ℕ → pushdown.State → Option pushdown.State
 within d s = cond (nat_le d 200) (Some s) None

@@ -1,6 +1,6 @@
 //! What a block leaves to be done, and its labels.
 
-ghost use Rattle.std.specs.Prelude.{◌≡◌, ◌<◌, ◌≤◌, ◌+◌, ◌∷◌, ◌++◌, ℕ, List, [], length, bytes_eq, if◌then◌else◌, IfOk, MatchOption, Some, None};
+ghost use Rattle.std.specs.Prelude.{◌≡◌, ◌<◌, ◌+◌, ◌∷◌, ◌++◌, List, [], length, if◌then◌else◌, IfOk, MatchOption, Some, None};
 ghost use Rattle.std.specs.List.{list_any};
 ghost use Rattle.lua_ast.specs.Tree.{Trees, snoc};
 ghost use Rattle.lua_ast.specs.Decode.{tree, own_number};

@@ -2,7 +2,6 @@
 
 ghost use Rattle.std.specs.Prelude.{◌≡◌, ◌<◌, ◌≤◌, length, IfOk, IfErr};
 ghost use Rattle.lua_lexer.specs.Lexes.{Lexes};
-ghost use Rattle.lua_ast.specs.Tree.{Tree};
 ghost use Rattle.lua_parser.specs.Parsing.{tree_of};
 ghost use Rattle.lua_scope.specs.Loads.{most_text, HasTokensOf, Loads, LoadsAs, IsLoadFailure};
 ghost use Rattle.lua_scope.specs.OfChunk.{history_of};

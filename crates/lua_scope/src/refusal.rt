@@ -28,7 +28,6 @@ pub enum ScopeError {
 
 impl From<AllocError> for ScopeError {
     ghost use Rattle.std.specs.Prelude.{◌≡◌};
-    ghost use Rattle.lua_scope.specs.declared.refusal.ScopeError.{ScopeError as the_error};
     ghost use Rattle.lua_scope.specs.declared.refusal.ScopeError.TheVariants as error;
 
     ghost from_gives = { λ _ e. e ≡ error.NoMemory };

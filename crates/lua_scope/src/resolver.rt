@@ -1,6 +1,6 @@
 //! The variables of a text.
 
-ghost use Rattle.std.specs.Prelude.{◌≡◌, ◌<◌, ◌≤◌, ◌+◌, ◌^◌, ◌||◌, ◌∷◌, [], ℕ, List, Some, None, false, length, replicate, slice_set, slice_index_or, ◌==◌, IfOk};
+ghost use Rattle.std.specs.Prelude.{◌≡◌, ◌<◌, ◌+◌, ◌^◌, ◌||◌, ◌∷◌, [], ℕ, List, Some, false, length, slice_set, slice_index_or, ◌==◌, IfOk};
 ghost use Rattle.lua_scope.specs.declared.event.Event.{Event as EventOf};
 ghost use Rattle.lua_scope.specs.Scope.{entered};
 ghost use Rattle.lua_scope.specs.Variables.{variable_named, captured_in, also, with_use, with_meaning};

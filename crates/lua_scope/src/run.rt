@@ -1,10 +1,9 @@
 //! The scope rules over a whole text.
 
-ghost use Rattle.std.specs.Prelude.{◌≡◌, ℕ, All, List, [], Some, None, length, replicate, reverse, IfOk, IfErr};
+ghost use Rattle.std.specs.Prelude.{◌≡◌, [], Some, None, length, replicate, reverse, IfOk, IfErr};
 ghost use Rattle.lua_ast.specs.Decode.{tree, own_number};
 ghost use Rattle.lua_scope.specs.History.{history};
 ghost use Rattle.lua_scope.specs.Refusals.{first_refusal};
-ghost use Rattle.lua_scope.specs.Walking.{EventBelow};
 ghost use Rattle.lua_scope.specs.Resolved.{Resolved, TellsRefusal};
 
 use crate::numbers::Numbers;

@@ -1,6 +1,6 @@
 //! What is in scope and what is open at a place of a text.
 
-ghost use Rattle.std.specs.Prelude.{◌≡◌, ◌+◌, ◌<◌, ◌^◌, [], ℕ, length, reverse, IfOk};
+ghost use Rattle.std.specs.Prelude.{◌≡◌, ◌+◌, ◌<◌, ◌^◌, [], length, reverse, IfOk};
 ghost use Rattle.lua_scope.specs.Scope.{opened, closed, entered};
 ghost use Rattle.lua_scope.specs.Variables.{variable_named};
 ghost use Rattle.lua_scope.specs.Refusals.{target, jump as jump_of, in_loop as in_loop_of, has_varargs as has_varargs_of, refusal_in};

@@ -1,7 +1,6 @@
 //! The variables in scope, found by name.
 
-ghost use Rattle.std.specs.Prelude.{◌≡◌, ◌-◌, ◌∷◌, ◌++◌, [], ℕ, List, length, take, bytes_eq, if◌then◌else◌, Some, IsSome, IfOk, OnOk, OnErr};
-ghost use Rattle.std.specs.Option.{option_flatten};
+ghost use Rattle.std.specs.Prelude.{◌≡◌, ◌-◌, ◌∷◌, ◌++◌, [], ℕ, List, length, take, bytes_eq, if◌then◌else◌, Some, IsSome, IfOk};
 ghost use Rattle.lua_scope.specs.ByName.{at_name};
 ghost use Rattle.lua_scope.specs.Variables.{variable_named};
 

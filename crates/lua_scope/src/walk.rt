@@ -1,6 +1,6 @@
 //! The walk through a text from left to right.
 
-ghost use Rattle.std.specs.Prelude.{All, ◌≡◌, ◌<◌, ◌+◌, ◌∷◌, ◌++◌, ℕ, List, [], length, reverse, IfOk, MatchOption, if◌then◌else◌};
+ghost use Rattle.std.specs.Prelude.{All, ◌≡◌, ◌<◌, ◌+◌, ◌∷◌, ◌++◌, List, [], length, reverse, IfOk, MatchOption};
 ghost use Rattle.lua_ast.specs.Decode.{tree, own_number};
 ghost use Rattle.lua_scope.specs.declared.event.Event.{Event as EventOf};
 ghost use Rattle.lua_scope.specs.History.{history};

@@ -1,13 +1,13 @@
 //! The records of a tree as JSON.
 
-ghost use Rattle.std.specs.Prelude.{◌≡◌, ◌∷◌, ◌++◌, true, Some, IfOk, IfSome, IsSome, string_bytes};
+ghost use Rattle.std.specs.Prelude.{◌≡◌, ◌++◌, true, Some, IfOk, IfSome, IsSome};
 ghost use Rattle.std.specs.Str.{IsUtf8};
 ghost use Rattle.serde_json.specs.Data.{string};
 ghost use Rattle.serde_json.specs.View.{view};
 ghost use Rattle.zp_names.specs.Names.{is_valid_short};
 ghost use Rattle.zp_props.specs.Settings.{AreSettings, IsValue};
 ghost use Rattle.zp_tree.specs.Tree.{at, id_of, head_name};
-ghost use Rattle.zp_tree.specs.WellFormed.{IsWellFormed, Agrees, IsHead, IsSnapshot, head_in, snapshot_in};
+ghost use Rattle.zp_tree.specs.WellFormed.{IsWellFormed, Agrees, IsSnapshot, head_in, snapshot_in};
 ghost use Rattle.zc_reply.specs.Journal.{array_of};
 ghost use Rattle.zc_reply.specs.Records.{value_data, settings_data, hold_data, kind_text, name_data, origin_data, head_data, snapshot_data, bookmark_data, record_data};
 

@@ -10,10 +10,6 @@ use Rattle.zc_reply.proofs.NoFloat.{put_float}
 use Rattle.zcpd.specs.declared.document.program.Program.{Program}
 use Rattle.zcpd.specs.Check.{IsVerdict, Checked, IsRight, AreVerdicts, verdict_data, put_verdict, check_data}
 
--- there is no program yet
-pub none-found : AreVerdicts [] (object no_members)
-none-found = record { checked = []; each = refl; right = All-nil IsRight; is = refl }
-
 inside : (a b : Members) → object a ≡ object b → a ≡ b
 inside a b e = cc
 

@@ -6,7 +6,7 @@ ghost use Rattle.serde_json.specs.View.{view};
 ghost use Rattle.serde_json.specs.Written.{has_float, compact_text};
 ghost use Rattle.zp_names.specs.NameParts.{is_pool};
 ghost use Rattle.zcpd.specs.Programs.{AreNamed};
-ghost use Rattle.zcpd.specs.Check.{IsVerdict, verdict_data, AreVerdicts, check_data, check_text, IsCheckOf};
+ghost use Rattle.zcpd.specs.Check.{IsVerdict, verdict_data, AreVerdicts, check_data, IsCheckOf};
 
 use crate::document::{Document, Program};
 use crate::load_error::load_error_text;

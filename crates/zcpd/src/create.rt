@@ -1,7 +1,6 @@
 //! The check and the change of `create`: zfs-create(8).
 
-ghost use Rattle.std.specs.Prelude.{◌≡◌, IsTrue, IfOk, OnOk, OnErr};
-ghost use Rattle.zp_names.specs.Names.{is_valid_name};
+ghost use Rattle.std.specs.Prelude.{◌≡◌, IfOk, OnOk, OnErr};
 ghost use Rattle.zp_tree.specs.WellFormed.{IsWellFormed};
 ghost use Rattle.zp_tree.specs.Rows.{passed};
 ghost use Rattle.zp_tree.specs.Create.{create_check, create_change};

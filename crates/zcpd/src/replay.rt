@@ -1,12 +1,12 @@
 //! Doing a schedule: its events one by one, each where it is enabled.
 
-ghost use Rattle.std.specs.Prelude.{◌≡◌, ◌<◌, ◌^◌, ◌++◌, ◌∷◌, [], ℕ, IsSome, Some, List, All, length, map, IfOk, IfErr, OnOk, slice_index_or, slice_set, vec_len};
+ghost use Rattle.std.specs.Prelude.{◌≡◌, ◌<◌, ◌^◌, ◌++◌, ◌∷◌, [], ℕ, IsSome, Some, List, All, length, map, IfOk, IfErr, OnOk, slice_index_or, slice_set};
 ghost use Rattle.txg_core.specs.Rules.{origin_of as opening_of};
 ghost use Rattle.txg_core.specs.declared.event.Entry.{Entry};
 ghost use Rattle.txg_core.specs.Calls.{IsHistoryOf};
 ghost use Rattle.zp_calls.specs.declared.call.Call.{Call as CallOf};
 ghost use Rattle.zcpd.specs.Pool.{pool_means};
-ghost use Rattle.zcpd.specs.Replay.{call_in, all_given, number_in, Follows, IsFollowing, Does, StopsAt};
+ghost use Rattle.zcpd.specs.Replay.{call_in, number_in, Follows, IsFollowing, Does, StopsAt};
 
 use crate::pool::Pool;
 use std::alloc::{AllocError, Global};

@@ -1,5 +1,5 @@
 -- The settings of a dataset: zfsprops(7), "Native Properties" and "User Properties".
-use Rattle.std.specs.Prelude.{ℕ, ◌==◌, Bool, List, map, count_by, find, is_some, All, bytes_eq, codes, Option, IsTrue}
+use Rattle.std.specs.Prelude.{ℕ, ◌==◌, Bool, List, map, count_by, find, is_some, All, bytes_eq, codes, Option}
 use Rattle.std.specs.List.{IsDistinct, list_any}
 use Rattle.std.specs.Str.{IsUtf8}
 use Rattle.zp_props.specs.declared.setting.Setting.{Setting}

@@ -1,11 +1,10 @@
 -- What is at each id after one edit.
-use Rattle.std.proofs.Common.{◌≡◌, ℕ, ◌+◌, ◌<◌, ◌≤◌, List, [], ◌∷◌, ◌++◌, length, nat_eq, Bool, true, false, cond, Option, Some, None, IsSome, refl, sym, ap, subst, ◌∙◌, arith, find, inl, inr, ◌⊎◌, option_map, option_and_then, filter_map}
-use Rattle.std.proofs.lemmas.Bool.{eq-eqb, cases_eq, ne_eqb, cases_Bool}
+use Rattle.std.proofs.Common.{◌≡◌, ℕ, ◌+◌, ◌<◌, ◌≤◌, List, [], ◌∷◌, ◌++◌, length, nat_eq, true, false, cond, Option, Some, None, IsSome, refl, sym, ap, subst, ◌∙◌, arith, inl, inr, ◌⊎◌, option_and_then}
+use Rattle.std.proofs.lemmas.Bool.{eq-eqb, cases_eq, ne_eqb}
 use mathlib.Core.Path.{fun_ext}
 use Rattle.zp_tree.specs.declared.item.Item.{Item}
 use Rattle.zp_tree.specs.Tree.{at, has_id, id_of, Rises, put, without}
-use Rattle.zp_tree.specs.WellFormed.{Look, Agrees}
-use Rattle.zp_tree.proofs.Looks.{at-low}
+use Rattle.zp_tree.specs.WellFormed.{Look}
 use Rattle.zp_tree.proofs.Rising.{rises-below}
 
 -- o at n, and the rest as before

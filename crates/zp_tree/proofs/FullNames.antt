@@ -1,15 +1,13 @@
 -- In a well-formed tree no two records have one full name.
-use Rattle.std.proofs.Common.{◌≡◌, ℕ, ◌+◌, List, [], ◌∷◌, ◌++◌, Bool, true, false, not, ◌||◌, Option, Some, None, refl, sym, ap, ◌∙◌, option_map, option_and_then, find, is_some, is_none, cond, bytes_eq}
+use Rattle.std.proofs.Common.{◌≡◌, ℕ, ◌+◌, List, [], ◌∷◌, ◌++◌, Bool, true, false, Option, Some, None, refl, sym, ap, ◌∙◌, option_map, option_and_then, find, is_some, is_none, cond}
 use Rattle.std.proofs.lemmas.Bool.{true≢false}
 use Rattle.std.proofs.lemmas.Slice.Eq.{bytes_eq-Decides}
 use Rattle.zp_names.specs.Names.{is_mark, is_head}
 use Rattle.zp_tree.specs.declared.item.Item.{Item}
 use Rattle.zp_tree.specs.declared.item.Item.TheVariants as item
 use Rattle.zp_tree.specs.declared.item.Head.{Head}
-use Rattle.zp_tree.specs.declared.item.Snapshot.{Snapshot}
-use Rattle.zp_tree.specs.declared.item.Bookmark.{Bookmark}
 use Rattle.zp_tree.specs.Tree.{Tree, at, has_id, id_of, as_head, as_snapshot, as_bookmark, is_text, full_name, head_name, is_called, named, Finds}
-use Rattle.zp_tree.specs.WellFormed.{head_in, IsHead, Agrees, IsWellFormed}
+use Rattle.zp_tree.specs.WellFormed.{head_in, IsHead, IsWellFormed}
 use Rattle.zp_tree.proofs.Looks.{found-at, find-passes, find-some}
 
 -- ---- a name in its parts

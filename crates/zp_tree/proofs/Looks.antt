@@ -1,8 +1,8 @@
 -- Looking up ids in a list whose ids rise.
-use Rattle.std.proofs.Common.{◌≡◌, ℕ, ◌+◌, ◌<◌, ◌≤◌, List, [], ◌∷◌, ◌++◌, length, nat_eq, Bool, true, false, not, cond, Option, Some, None, IsSome, refl, sym, ap, ◌∙◌, arith, find, inl, inr, ◌⊎◌, option_map, option_and_then, is_some, Bor, IfSome}
-use Rattle.std.proofs.lemmas.Bool.{eqb-true, eq-eqb, cases_eq, ne_eqb, true≢false, cases_Bool}
+use Rattle.std.proofs.Common.{◌≡◌, ℕ, ◌+◌, ◌≤◌, List, [], ◌∷◌, Bool, true, cond, Option, Some, None, refl, sym, ap, ◌∙◌, arith, find, inl, inr, option_map, is_some, Bor, IfSome}
+use Rattle.std.proofs.lemmas.Bool.{eqb-true, eq-eqb, cases_eq, ne_eqb, cases_Bool}
 use Rattle.zp_tree.specs.declared.item.Item.{Item}
-use Rattle.zp_tree.specs.Tree.{at, has_id, id_of, Rises, put, without, is_called, named, Finds}
+use Rattle.zp_tree.specs.Tree.{at, has_id, id_of, Rises, is_called, named, Finds}
 
 -- what is found passes
 pub find-passes : {X : Type 0} (p : X → Bool) (xs : List X) (x : X) → find p xs ≡ Some x → p x ≡ true

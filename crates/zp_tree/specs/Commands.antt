@@ -1,5 +1,5 @@
 -- Every command and every query: a line each.
-use Rattle.std.specs.Prelude.{ℕ, Bool}
+use Rattle.std.specs.Prelude.{ℕ}
 use Rattle.zp_names.specs.declared.command.Command.{Command}
 use Rattle.zp_names.specs.declared.command.Command.TheVariants as command
 use Rattle.zp_names.specs.declared.verdict.Verdict.{Verdict}

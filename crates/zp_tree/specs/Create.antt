@@ -1,5 +1,5 @@
 -- Creating a file system: zfs-create(8).
-use Rattle.std.specs.Prelude.{ℕ, ◌+◌, ◌^◌, ◌-◌, ◌||◌, ◌==◌, Bool, true, false, not, nat_le, is_some, List, [], ◌∷◌, ◌++◌, length, Option, Some, None, option_and_then}
+use Rattle.std.specs.Prelude.{ℕ, ◌+◌, ◌^◌, ◌-◌, ◌||◌, ◌==◌, Bool, true, false, not, nat_le, is_some, List, [], ◌∷◌, ◌++◌, length, Option, None, option_and_then}
 use Rattle.std.specs.Option.{option_map_or}
 use Rattle.zp_names.specs.Names.{is_head}
 use Rattle.zp_names.specs.NameParts.{parent_of}

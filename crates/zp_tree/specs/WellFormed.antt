@@ -1,7 +1,7 @@
 -- Which trees are well formed.
 -- Source: zfs(8) and zfsconcepts(7) on file systems, snapshots, clones and bookmarks; zfs-destroy(8) on deferred
 -- destruction; zfsprops(7) on volsize. The limits are this project's own.
-use Rattle.std.specs.Prelude.{ℕ, ◌≡◌, ◌≤◌, ◌⊎◌, true, List, [], length, map, sum_by, All, bytes_eq, Option, Some, None, IsSome, option_and_then}
+use Rattle.std.specs.Prelude.{ℕ, ◌≡◌, ◌≤◌, ◌⊎◌, true, List, [], length, map, sum_by, All, bytes_eq, Option, Some, IsSome, option_and_then}
 use Rattle.std.specs.List.{IsDistinct}
 use Rattle.std.specs.Str.{IsUtf8}
 use Rattle.zp_names.specs.Names.{is_valid_name, is_valid_short, is_head}

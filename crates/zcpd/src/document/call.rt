@@ -1,6 +1,5 @@
 //! Names and calls in a document.
 
-ghost use Rattle.std.specs.Prelude.{◌≡◌};
 ghost use Rattle.serde_json.specs.View.{view};
 ghost use Rattle.zcpd.specs.Reading.{Gives};
 ghost use Rattle.zcpd.specs.Document.{any_name_at, pool_at, name_at, call_of, call_at, call_members};

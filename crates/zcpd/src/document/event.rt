@@ -1,8 +1,6 @@
 //! Events in a document.
 
 ghost use Rattle.std.specs.Prelude.{◌≡◌};
-ghost use Rattle.serde_json.specs.View.{view};
-ghost use Rattle.zcpd.specs.Reading.{Gives};
 ghost use Rattle.zcpd.specs.Document.{group_event, session_event, event_at};
 
 use super::DocError;

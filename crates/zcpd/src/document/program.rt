@@ -1,6 +1,6 @@
 //! The channel programs of a document.
 
-ghost use Rattle.std.specs.Prelude.{◌≡◌, IfOk};
+ghost use Rattle.std.specs.Prelude.{IfOk};
 ghost use Rattle.std.specs.Str.{IsUtf8};
 ghost use Rattle.serde_json.specs.View.{view, members_view};
 ghost use Rattle.zcpd.specs.Reading.{Gives};

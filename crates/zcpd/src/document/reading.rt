@@ -1,6 +1,6 @@
 //! Reading the parts of a document.
 
-ghost use Rattle.std.specs.Prelude.{◌≡◌, ℕ, Option};
+ghost use Rattle.std.specs.Prelude.{◌≡◌, Option};
 ghost use Rattle.serde_json.specs.Data.{Data};
 ghost use Rattle.serde_json.specs.View.{view, items_view};
 ghost use Rattle.zcpd.specs.Reading.{Gives, number_below, member, width_of, length_of, has_width, items, array_within, is_empty_array};
