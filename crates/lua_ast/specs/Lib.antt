@@ -1,3 +1,5 @@
 pub mod Tree
 pub mod Decode
 pub mod Numbers
+pub mod Weights
+pub mod Once

@@ -1,3 +1,4 @@
+pub mod Weighing
 pub mod Nodes
 pub mod Rooms
 pub mod Lists

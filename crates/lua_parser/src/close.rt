@@ -23,7 +23,7 @@ impl Parser {
         kind: Option<TokenKind>,
     ) -> Result<State, Refusal>
         requires { had < length self.old.nodes }
-        ensures { Gave
+        ensures gave { Gave
             (close (InParen limit line) (tree_in self.old.nodes had) (stack_in self.old) (mark_of kind) (place true 0 []))
             (close (InParen limit line) (tree_in self.old.nodes had) (stack_in self.old) (mark_of kind) (place false 0 []))
             result self.new }
@@ -44,7 +44,7 @@ impl Parser {
     ) -> Result<State, Refusal>
         requires object { object < length self.old.nodes }
         requires had { had < length self.old.nodes }
-        ensures { Gave
+        ensures gave { Gave
             (close (InIndex limit (tree_in self.old.nodes object)) (tree_in self.old.nodes had) (stack_in self.old) (mark_of kind) (place true 0 []))
             (close (InIndex limit (tree_in self.old.nodes object)) (tree_in self.old.nodes had) (stack_in self.old) (mark_of kind) (place false 0 []))
             result self.new }
@@ -71,7 +71,7 @@ impl Parser {
         requires callee { CalleeBelow (length self.old.nodes) callee }
         requires args { AllBelow (length self.old.nodes) args }
         requires had { had < length self.old.nodes }
-        ensures { Gave
+        ensures gave { Gave
             (close (InArgs limit (callee_in self.old.nodes callee) (list_of (tree_in self.old.nodes) args)) (tree_in self.old.nodes had) (stack_in self.old) (mark_of kind) (place true 0 []))
             (close (InArgs limit (callee_in self.old.nodes callee) (list_of (tree_in self.old.nodes) args)) (tree_in self.old.nodes had) (stack_in self.old) (mark_of kind) (place false 0 []))
             result self.new }
@@ -100,7 +100,7 @@ impl Parser {
     ) -> Result<State, Refusal>
         requires table { TableBelow (length self.old.nodes) table }
         requires had { had < length self.old.nodes }
-        ensures { Gave
+        ensures gave { Gave
             (close (InKey (purpose_in self.old.nodes table.purpose) table.line (fields_of (tree_in self.old.nodes) table.fields)) (tree_in self.old.nodes had) (stack_in self.old) (mark_of kind) (place true 0 []))
             (close (InKey (purpose_in self.old.nodes table.purpose) table.line (fields_of (tree_in self.old.nodes) table.fields)) (tree_in self.old.nodes had) (stack_in self.old) (mark_of kind) (place false 0 []))
             result self.new }
@@ -179,7 +179,7 @@ impl Parser {
         requires exps { AllBelow (length self.old.nodes) exps }
         requires block { BegunBelow (length self.old.nodes) block }
         requires had { had < length self.old.nodes }
-        ensures { Gave
+        ensures gave { Gave
             (close (InLocal own names (list_of (tree_in self.old.nodes) exps) (begun_in self.old.nodes block)) (tree_in self.old.nodes had) (stack_in self.old) (mark_of kind) (place true line slice.now))
             (close (InLocal own names (list_of (tree_in self.old.nodes) exps) (begun_in self.old.nodes block)) (tree_in self.old.nodes had) (stack_in self.old) (mark_of kind) (place false line slice.now))
             result self.new }
@@ -226,7 +226,7 @@ impl Parser {
         requires exps { AllBelow (length self.old.nodes) exps }
         requires block { BegunBelow (length self.old.nodes) block }
         requires had { had < length self.old.nodes }
-        ensures { Gave
+        ensures gave { Gave
             (close (InAssign own (list_of (tree_in self.old.nodes) targets) (list_of (tree_in self.old.nodes) exps) (begun_in self.old.nodes block)) (tree_in self.old.nodes had) (stack_in self.old) (mark_of kind) (place true line slice.now))
             (close (InAssign own (list_of (tree_in self.old.nodes) targets) (list_of (tree_in self.old.nodes) exps) (begun_in self.old.nodes block)) (tree_in self.old.nodes had) (stack_in self.old) (mark_of kind) (place false line slice.now))
             result self.new }
@@ -276,7 +276,7 @@ impl Parser {
         requires exps { AllBelow (length self.old.nodes) exps }
         requires block { BegunBelow (length self.old.nodes) block }
         requires had { had < length self.old.nodes }
-        ensures { Gave
+        ensures gave { Gave
             (close (InReturn own (list_of (tree_in self.old.nodes) exps) (begun_in self.old.nodes block)) (tree_in self.old.nodes had) (stack_in self.old) (mark_of kind) (place true 0 []))
             (close (InReturn own (list_of (tree_in self.old.nodes) exps) (begun_in self.old.nodes block)) (tree_in self.old.nodes had) (stack_in self.old) (mark_of kind) (place false 0 []))
             result self.new }
@@ -314,7 +314,7 @@ impl Parser {
     ) -> Result<State, Refusal>
         requires block { BegunBelow (length self.old.nodes) block }
         requires had { had < length self.old.nodes }
-        ensures { Gave
+        ensures gave { Gave
             (close (InStat (begun_in self.old.nodes block)) (tree_in self.old.nodes had) (stack_in self.old) (mark_of kind) (place true line slice.now))
             (close (InStat (begun_in self.old.nodes block)) (tree_in self.old.nodes had) (stack_in self.old) (mark_of kind) (place false line slice.now))
             result self.new }
@@ -344,7 +344,7 @@ impl Parser {
     ) -> Result<State, Refusal>
         requires block { BegunBelow (length self.old.nodes) block }
         requires had { had < length self.old.nodes }
-        ensures { Gave
+        ensures gave { Gave
             (call_statement own (tree_in self.old.nodes had) (begun_in self.old.nodes block) (stack_in self.old) (mark_of kind) (place true line slice.now))
             (call_statement own (tree_in self.old.nodes had) (begun_in self.old.nodes block) (stack_in self.old) (mark_of kind) (place false line slice.now))
             result self.new }
@@ -367,7 +367,7 @@ impl Parser {
         requires targets { AllBelow (length self.old.nodes) targets }
         requires block { BegunBelow (length self.old.nodes) block }
         requires had { had < length self.old.nodes }
-        ensures { Gave
+        ensures gave { Gave
             (close (InTargets own (list_of (tree_in self.old.nodes) targets) (begun_in self.old.nodes block)) (tree_in self.old.nodes had) (stack_in self.old) (mark_of kind) (place true 0 []))
             (close (InTargets own (list_of (tree_in self.old.nodes) targets) (begun_in self.old.nodes block)) (tree_in self.old.nodes had) (stack_in self.old) (mark_of kind) (place false 0 []))
             result self.new }
@@ -391,7 +391,7 @@ impl Parser {
         requires targets { AllBelow (length self.old.nodes) targets }
         requires block { BegunBelow (length self.old.nodes) block }
         requires had { had < length self.old.nodes }
-        ensures { Gave
+        ensures gave { Gave
             (close (InTargets own (list_of (tree_in self.old.nodes) targets) (begun_in self.old.nodes block)) (tree_in self.old.nodes had) (stack_in self.old) (mark_of (Some token)) (place true 0 []))
             (close (InTargets own (list_of (tree_in self.old.nodes) targets) (begun_in self.old.nodes block)) (tree_in self.old.nodes had) (stack_in self.old) (mark_of (Some token)) (place false 0 []))
             result self.new }

@@ -21,7 +21,7 @@ impl Parser {
     #[tactic(auto, using(crate::proofs::Rooms::within_room, crate::proofs::Rooms::within_deep))]
     fn deepen_twice(&self, state: State) -> Result<State, Refusal>
         requires { StateBelow (length self.now.nodes) state }
-        ensures { Gave (within (suc (suc (depth (stack_in self.now)))) (state_in self.now.nodes (stack_in self.now) state))
+        ensures gave { Gave (within (suc (suc (depth (stack_in self.now)))) (state_in self.now.nodes (stack_in self.now) state))
             (Some (state_in self.now.nodes (stack_in self.now) state)) result self.now }
     {
         if self.depth() >= 199 {

@@ -67,7 +67,7 @@ impl Parser {
     ) -> Result<State, Refusal>
         requires block { BegunBelow (length self.old.nodes) block }
         requires had { had < length self.old.nodes }
-        ensures { Gave
+        ensures gave { Gave
             (close (InWhileTest line (begun_in self.old.nodes block)) (tree_in self.old.nodes had) (stack_in self.old) (mark_of kind) (place true 0 []))
             (close (InWhileTest line (begun_in self.old.nodes block)) (tree_in self.old.nodes had) (stack_in self.old) (mark_of kind) (place false 0 []))
             result self.new }
@@ -95,7 +95,7 @@ impl Parser {
         requires cases { CasesBelow (length self.old.nodes) tests blocks }
         requires block { BegunBelow (length self.old.nodes) block }
         requires had { had < length self.old.nodes }
-        ensures { Gave
+        ensures gave { Gave
             (close (InIfTest line (cases_of (tree_in self.old.nodes) tests blocks) (begun_in self.old.nodes block)) (tree_in self.old.nodes had) (stack_in self.old) (mark_of kind) (place true 0 []))
             (close (InIfTest line (cases_of (tree_in self.old.nodes) tests blocks) (begun_in self.old.nodes block)) (tree_in self.old.nodes had) (stack_in self.old) (mark_of kind) (place false 0 []))
             result self.new }
@@ -123,7 +123,7 @@ impl Parser {
     ) -> Result<State, Refusal>
         requires block { BegunBelow (length self.old.nodes) block }
         requires had { had < length self.old.nodes }
-        ensures { Gave
+        ensures gave { Gave
             (close (InFirst line name (begun_in self.old.nodes block)) (tree_in self.old.nodes had) (stack_in self.old) (mark_of kind) (place true 0 []))
             (close (InFirst line name (begun_in self.old.nodes block)) (tree_in self.old.nodes had) (stack_in self.old) (mark_of kind) (place false 0 []))
             result self.new }
@@ -155,7 +155,7 @@ impl Parser {
         requires first { first < length self.old.nodes }
         requires block { BegunBelow (length self.old.nodes) block }
         requires had { had < length self.old.nodes }
-        ensures { Gave
+        ensures gave { Gave
             (close (InLimit line name (tree_in self.old.nodes first) (begun_in self.old.nodes block)) (tree_in self.old.nodes had) (stack_in self.old) (mark_of kind) (place true 0 []))
             (close (InLimit line name (tree_in self.old.nodes first) (begun_in self.old.nodes block)) (tree_in self.old.nodes had) (stack_in self.old) (mark_of kind) (place false 0 []))
             result self.new }
@@ -198,7 +198,7 @@ impl Parser {
         requires last { last < length self.old.nodes }
         requires block { BegunBelow (length self.old.nodes) block }
         requires had { had < length self.old.nodes }
-        ensures { Gave
+        ensures gave { Gave
             (close (InStep line name (tree_in self.old.nodes first) (tree_in self.old.nodes last) (begun_in self.old.nodes block)) (tree_in self.old.nodes had) (stack_in self.old) (mark_of kind) (place true 0 []))
             (close (InStep line name (tree_in self.old.nodes first) (tree_in self.old.nodes last) (begun_in self.old.nodes block)) (tree_in self.old.nodes had) (stack_in self.old) (mark_of kind) (place false 0 []))
             result self.new }
@@ -226,7 +226,7 @@ impl Parser {
     ) -> Result<State, Refusal>
         requires generic { HeaderBelow (length self.old.nodes) (Iterator generic) }
         requires had { had < length self.old.nodes }
-        ensures { Gave
+        ensures gave { Gave
             (close (header_in self.old.nodes (Iterator generic)) (tree_in self.old.nodes had) (stack_in self.old) (mark_of kind) (place true 0 []))
             (close (header_in self.old.nodes (Iterator generic)) (tree_in self.old.nodes had) (stack_in self.old) (mark_of kind) (place false 0 []))
             result self.new }

@@ -1,8 +1,10 @@
 //! Steps that many rules share.
 
-ghost use Rattle.std.specs.Prelude.{◌≡◌, ◌<◌, ◌∷◌, suc, length, Some, IfOk, OnOk};
+ghost use Rattle.std.specs.Prelude.{◌≡◌, ◌<◌, ◌+◌, ◌∷◌, suc, length, Some, IfOk, OnOk};
 ghost use Rattle.lua_ast.specs.Decode.{PartsBelow, node_tree};
 ghost use Rattle.lua_grammar.specs.Pushdown.{Need, BlockNext, Have, add, depth, lift, block_of};
+ghost use Rattle.lua_ast.specs.Weights.{parts_weight};
+ghost use Rattle.lua_parser.specs.Weights.{state_weight, begun_weight, block_weight, frame_weight, Balances, Spends};
 ghost use Rattle.lua_parser.specs.Shown.{tree_in, stack_in, state_in, begun_in, block_in, frame_in, BegunBelow, BlockBelow, FrameBelow, StateBelow};
 ghost use Rattle.lua_parser.specs.Gave.{Gave, within};
 
@@ -21,13 +23,14 @@ impl Parser {
         ensures state { IfOk result (λ s. state_in self.new.nodes (stack_in self.new) s
             ≡ Have limit (node_tree (tree_in self.old.nodes) 0 line node) (stack_in self.old)) }
         ensures below { IfOk result (λ s. StateBelow (length self.new.nodes) s) }
+        ensures once { Spends (λ w. parts_weight w node) self.old result self.new }
     {
         let node = self.add(node, line)?;
         Ok(State::Have { limit, node })
     }
 
     /// A statement was read.
-    #[tactic(auto, using(lua_ast::proofs::Growing::list_of_push, lua_ast::proofs::PlacesBelow::below_push, lua_ast::proofs::PlacesBelow::below_more))]
+    #[tactic(auto, using(lua_ast::proofs::Growing::list_of_push, lua_ast::proofs::PlacesBelow::below_push, lua_ast::proofs::PlacesBelow::below_more, crate::proofs::Weighing::list_push))]
     pub fn statement(
         &mut self,
         mut block: Begun,
@@ -40,6 +43,8 @@ impl Parser {
             ≡ add (begun_in self.old.nodes block) (node_tree (tree_in self.old.nodes) 0 line node)) }
         ensures stack { OnOk result (stack_in self.new ≡ stack_in self.old) }
         ensures below { IfOk result (λ b. BegunBelow (length self.new.nodes) b) }
+        ensures once { IfOk result (λ b. Balances
+            (λ w. begun_weight w block + parts_weight w node) self.old (λ w. begun_weight w b) self.new) }
     {
         let id = self.add(node, line)?;
         block.stats.push(id)?;
@@ -52,6 +57,8 @@ impl Parser {
         ensures tree { IfOk result (λ id. tree_in self.new.nodes id ≡ block_of (begun_in self.old.nodes block)) }
         ensures within { IfOk result (λ id. id < length self.new.nodes) }
         ensures stack { OnOk result (stack_in self.new ≡ stack_in self.old) }
+        ensures once { IfOk result (λ id.
+            Balances (λ w. begun_weight w block) self.old (λ w. w id) self.new) }
     {
         let Begun { line, stats } = block;
         Ok(self.add(Node::Block { stats }, line)?)
@@ -61,8 +68,9 @@ impl Parser {
     #[tactic(auto, using(crate::proofs::Rooms::within_room, crate::proofs::Rooms::within_deep))]
     pub fn deepen(&self, state: State) -> Result<State, Refusal>
         requires { StateBelow (length self.now.nodes) state }
-        ensures { Gave (within (suc (depth (stack_in self.now))) (state_in self.now.nodes (stack_in self.now) state))
+        ensures gave { Gave (within (suc (depth (stack_in self.now))) (state_in self.now.nodes (stack_in self.now) state))
             (Some (state_in self.now.nodes (stack_in self.now) state)) result self.now }
+        ensures once { Spends (λ w. state_weight w state) self.now result self.now }
     {
         if self.depth() >= 200 {
             return Err(Refusal::TooDeep);
@@ -74,10 +82,11 @@ impl Parser {
     #[tactic(auto, using(crate::proofs::Rooms::within_room, crate::proofs::Rooms::within_deep, crate::proofs::Rooms::lift_levels))]
     pub fn enter(&mut self, frame: Frame, limit: u8) -> Result<State, Refusal>
         requires { FrameBelow (length self.old.nodes) frame }
-        ensures { Gave
+        ensures gave { Gave
             (within (lift (frame_in self.old.nodes frame) (depth (stack_in self.old)))
             (Need limit (frame_in self.old.nodes frame ∷ stack_in self.old)))
             (Some (Need limit (frame_in self.old.nodes frame ∷ stack_in self.old))) result self.new }
+        ensures once { Spends (λ w. frame_weight w frame) self.old result self.new }
     {
         if self.depth() > 200 - levels_in(&frame) {
             return Err(Refusal::TooDeep);
@@ -90,10 +99,11 @@ impl Parser {
     #[tactic(auto, using(crate::proofs::Rooms::within_room, crate::proofs::Rooms::within_deep, crate::proofs::Nodes::lift_block))]
     pub fn enter_block(&mut self, outer: OpenBlock) -> Result<State, Refusal>
         requires { BlockBelow (length self.old.nodes) outer }
-        ensures { Gave
+        ensures gave { Gave
             (within (lift (block_in self.old.nodes outer) (depth (stack_in self.old)))
             (BlockNext (block_in self.old.nodes outer ∷ stack_in self.old)))
             (Some (BlockNext (block_in self.old.nodes outer ∷ stack_in self.old))) result self.new }
+        ensures once { Spends (λ w. block_weight w outer) self.old result self.new }
     {
         if self.depth() > 199 {
             return Err(Refusal::TooDeep);

@@ -7,6 +7,8 @@ ghost use Rattle.lua_grammar.specs.Grammar.{is_var, is_call, is_prefix};
 ghost use Rattle.lua_grammar.specs.Pushdown.{level_of, depth};
 ghost use Rattle.lua_parser.specs.declared.frame.Begun.{Begun as begun};
 ghost use Rattle.lua_parser.specs.declared.frame.Callee.{Callee as callee};
+ghost use Rattle.lua_ast.specs.Weights.{parts_weight};
+ghost use Rattle.lua_parser.specs.Weights.{frame_weight, Balances};
 ghost use Rattle.lua_parser.specs.Shown.{tree_in, stack_in, begun_in, callee_in, frame_in, BegunBelow, CalleeBelow, FrameBelow};
 
 use crate::frame::Frame;
@@ -91,28 +93,34 @@ impl Parser {
             begun_in self.new.nodes b ≡ begun_in self.old.nodes b) }
         ensures callee { OnOk result ((c : callee) → CalleeBelow (length self.old.nodes) c →
             callee_in self.new.nodes c ≡ callee_in self.old.nodes c) }
+        ensures once { IfOk result (λ id.
+            Balances (λ w. parts_weight w node) self.old (λ w. w id) self.new) }
     {
         Ok(self.nodes.push(node, line)?)
     }
 
     /// Puts a frame on top.
-    #[tactic(auto, unfolding(crate::specs::Shown::stack_in))]
+    #[tactic(auto, unfolding(crate::specs::Shown::stack_in, crate::specs::Weights::spent, crate::specs::Weights::made))]
     pub fn push(&mut self, frame: Frame) -> Result<(), AllocError>
         requires { FrameBelow (length self.old.nodes) frame }
         ensures nodes { OnOk result (self.new.nodes ≡ self.old.nodes) }
         ensures stack { OnOk result (stack_in self.new ≡ frame_in self.old.nodes frame ∷ stack_in self.old) }
+        ensures once { OnOk result
+            (Balances (λ w. frame_weight w frame) self.old (λ _. 0) self.new) }
     {
         self.stack.push(frame)
     }
 
     /// Takes the frame on top off.
-    #[tactic(auto, unfolding(crate::specs::Shown::stack_in))]
+    #[tactic(auto, unfolding(crate::specs::Shown::stack_in, crate::specs::Weights::spent, crate::specs::Weights::made))]
     pub fn pop(&mut self) -> Option<Frame>
         ensures nodes { self.new.nodes ≡ self.old.nodes }
         ensures stack { MatchOption result (stack_in self.old ≡ [])
             (λ frame. stack_in self.old ≡ frame_in self.old.nodes frame ∷ stack_in self.new) }
         ensures below { IfSome result (λ frame. FrameBelow (length self.old.nodes) frame) }
         ensures fewer { OnSome result (length self.new.frames < length self.old.frames) }
+        ensures once { IfSome result (λ frame.
+            Balances (λ _. 0) self.old (λ w. frame_weight w frame) self.new) }
     {
         self.stack.pop()
     }

@@ -1,0 +1,46 @@
+-- The weight of what was begun, one part or frame more.
+use Rattle.std.specs.Prelude.{◌≡◌, ℕ, zero, suc, ◌+◌, List, [], ◌∷◌, ◌++◌, length, refl}
+use Rattle.std.proofs.Common.{ap, sym, ◌∙◌, arith, length-append}
+use Rattle.lua_ast.specs.declared.node.LinedNode.{LinedNode}
+use Rattle.lua_parser.specs.declared.frame.Frame.{Frame}
+use Rattle.lua_parser.specs.Shown.{Held}
+use Rattle.lua_ast.specs.Weights.{list_weight, cases_weight, fields_weight, field_weight, parts_weight, nodes_weight, total}
+use Rattle.lua_ast.specs.declared.node.Field.{Field}
+use Rattle.lua_parser.specs.Weights.{frame_weight, frames_weight, spent, made}
+
+pub list_push : (w : ℕ → ℕ) (is : List ℕ) (i : ℕ) → list_weight w (is ++ i ∷ []) ≡ list_weight w is + w i
+list_push w [] i = omega arith
+list_push w (j ∷ is) i = omega (arith, list_push w is i)
+
+pub nodes_push : (w : ℕ → ℕ) (ns : List LinedNode) (n : LinedNode) → nodes_weight w (ns ++ n ∷ []) ≡ nodes_weight w ns + parts_weight w n.node
+nodes_push w [] n = omega arith
+nodes_push w (m ∷ ns) n = omega (arith, nodes_push w ns n)
+
+pub fields_push : (w : ℕ → ℕ) (fs : List Field) (f : Field) → fields_weight w (fs ++ f ∷ []) ≡ fields_weight w fs + field_weight w f
+fields_push w [] f = omega arith
+fields_push w (g ∷ fs) f = omega (arith, fields_push w fs f)
+
+pub cases_push : (w : ℕ → ℕ) (ts bs : List ℕ) (t b : ℕ) → length ts ≡ length bs → cases_weight w (ts ++ t ∷ []) (bs ++ b ∷ []) ≡ cases_weight w ts bs + w t + w b
+cases_push w [] [] t b e = omega arith
+cases_push w [] (c ∷ bs) t b e = cc
+cases_push w (s ∷ ts) [] t b e = cc
+cases_push w (s ∷ ts) (c ∷ bs) t b e = omega (arith, cases_push w ts bs t b (omega (arith, e)))
+
+total_next : (w : ℕ → ℕ) (k : ℕ) → total w (k + 1) ≡ total w k + w k
+total_next w zero = refl
+total_next w (suc k) = ap (total w) (same k) where
+  same : (k : ℕ) → suc k + 1 ≡ suc (suc k)
+  same k = omega arith
+
+pub added : (ns ms : List LinedNode) (n : LinedNode) (fs : List Frame) (i : ℕ) → ms ≡ ns ++ n ∷ [] → i ≡ length ns → (w : ℕ → ℕ) →
+    w i + spent w (record { nodes = ms; frames = fs }) + made w (record { nodes = ns; frames = fs }) ≡ parts_weight w n.node + spent w (record { nodes = ns; frames = fs }) + made w (record { nodes = ms; frames = fs })
+unfolding spent made
+added ns ms n fs i e at w =
+    let used = ap (nodes_weight w) e ∙ nodes_push w ns n in
+    let more : total w (length ms) ≡ total w (length ns) + w (length ns) = ap (λ (xs : List LinedNode). total w (length xs)) e ∙ ap (total w) (length-append ns (n ∷ [])) ∙ total_next w (length ns) in
+    let here = ap w at in
+    omega (arith, used, more, here)
+
+pub spent_push : (w : ℕ → ℕ) (ns : List LinedNode) (f : Frame) (fs : List Frame) → spent w (record { nodes = ns; frames = f ∷ fs }) ≡ frame_weight w f + spent w (record { nodes = ns; frames = fs })
+unfolding spent
+spent_push w ns f fs = omega arith
