@@ -21,6 +21,10 @@ use Rattle.lua_parser.specs.declared.state.Naming.{Naming}
 use Rattle.lua_parser.specs.declared.state.Naming.TheVariants as naming
 use Rattle.lua_parser.specs.declared.state.State.{State}
 use Rattle.lua_parser.specs.declared.state.State.TheVariants as state
+use Rattle.lua_parser.specs.declared.state.Folded.{Folded}
+use Rattle.lua_parser.specs.declared.state.Folded.TheVariants as folded
+use Rattle.lua_parser.specs.declared.state.Followed.{Followed}
+use Rattle.lua_parser.specs.declared.state.Followed.TheVariants as followed
 use Rattle.lua_parser.specs.Shown.{Held}
 abbrev pub begun_weight : (ℕ → ℕ) → Begun → ℕ
 begun_weight w b = list_weight w b.stats
@@ -141,3 +145,14 @@ Balances given before left after = (w : ℕ → ℕ) → left w + spent w after 
 abbrev pub Spends : {E : Type 0} → (given : (ℕ → ℕ) → ℕ) → Held → Result State E → Held → Type 0
 Spends given before (Ok s) after = Balances given before (λ w. state_weight w s) after
 Spends given before (Err e) after = Unit {0}
+
+-- the same where the expression that was given is over; inside something else it stays given
+abbrev pub FoldsOnce : (had : ℕ) → Held → Folded → Held → Type 0
+FoldsOnce had before (folded.Operation o) after = Balances (λ w. w had) before (λ w. w o.node) after
+FoldsOnce had before (folded.Inside f) after = Balances (λ _. 0) before (λ w. frame_weight w f) after
+FoldsOnce had before folded.Nothing after = Unit {0}
+
+abbrev pub FollowsOnce : {E : Type 0} → (had : ℕ) → Held → Result Followed E → Held → Type 0
+FollowsOnce had before (Ok (followed.Goes s)) after = Balances (λ w. w had) before (λ w. state_weight w s) after
+FollowsOnce had before (Ok (followed.Over o)) after = Balances (λ w. w had) before (λ w. w o.node) after
+FollowsOnce had before (Err e) after = Unit {0}

@@ -1,11 +1,13 @@
 //! The end of a block (Lua 5.2 manual, 3.3.1, 3.3.4 and 3.3.5).
 
-ghost use Rattle.std.specs.Prelude.{◌<◌, ◌∷◌, [], true, false, length, Some, None};
+ghost use Rattle.std.specs.Prelude.{◌+◌, ◌<◌, ◌∷◌, [], true, false, length, Some, None};
 ghost use Rattle.lua_ast.specs.Decode.{PartsBelow, node_tree, cases_of};
 ghost use Rattle.lua_grammar.specs.Pushdown.{end_block, block_of, InRepeat, InThen, InElse};
 ghost use Rattle.lua_parser.specs.Shown.{tree_in, stack_in, begun_in, block_in, frame_in, place, BegunBelow, CasesBelow, BlockBelow, FrameBelow};
 ghost use Rattle.lua_parser.specs.declared.frame.OpenBlock.TheVariants.{NumericFor as OverNumbers, GenericFor as OverIterators};
 ghost use Rattle.lua_parser.specs.Gave.{Gave, ended, after_cases, mark_of};
+ghost use Rattle.lua_ast.specs.Weights.{list_weight, maybe_weight, cases_weight, parts_weight};
+ghost use Rattle.lua_parser.specs.Weights.{Spends, begun_weight, block_weight, frame_weight};
 
 use crate::frame::{Begun, Frame, GenericFor, NumericFor, OpenBlock, OpenHeader, OpenStatement};
 use crate::parser::Parser;
@@ -22,6 +24,7 @@ impl Parser {
             (end_block (stack_in self.old) (block_of (begun_in self.old.nodes block)) (mark_of kind) (place true 0 []))
             (end_block (stack_in self.old) (block_of (begun_in self.old.nodes block)) (mark_of kind) (place false 0 []))
             result self.new }
+        ensures once { Spends (λ w. begun_weight w block) self.old result self.new }
     {
         let root = self.block(block)?;
         match self.pop() {
@@ -47,6 +50,7 @@ impl Parser {
             (end_block (frame_in self.old.nodes frame ∷ stack_in self.old) (tree_in self.old.nodes body) (mark_of kind) (place true 0 []))
             (end_block (frame_in self.old.nodes frame ∷ stack_in self.old) (tree_in self.old.nodes body) (mark_of kind) (place false 0 []))
             result self.new }
+        ensures once { Spends (λ w. frame_weight w frame + w body) self.old result self.new }
     {
         match frame {
             Frame::InBlock(outer) => self.close_body(outer, body, kind),
@@ -67,6 +71,7 @@ impl Parser {
             (end_block (block_in self.old.nodes outer ∷ stack_in self.old) (tree_in self.old.nodes body) (mark_of kind) (place true 0 []))
             (end_block (block_in self.old.nodes outer ∷ stack_in self.old) (tree_in self.old.nodes body) (mark_of kind) (place false 0 []))
             result self.new }
+        ensures once { Spends (λ w. block_weight w outer + w body) self.old result self.new }
     {
         match outer {
             OpenBlock::Do { line, block } => {
@@ -116,6 +121,7 @@ impl Parser {
             (end_block (InRepeat line (begun_in self.old.nodes block) ∷ stack_in self.old) (tree_in self.old.nodes body) (mark_of kind) (place true 0 []))
             (end_block (InRepeat line (begun_in self.old.nodes block) ∷ stack_in self.old) (tree_in self.old.nodes body) (mark_of kind) (place false 0 []))
             result self.new }
+        ensures once { Spends (λ w. begun_weight w block + w body) self.old result self.new }
     {
         match kind {
             Some(TokenKind::Until) => {
@@ -145,6 +151,7 @@ impl Parser {
             (end_block (InElse line (cases_of (tree_in self.old.nodes) tests blocks) (begun_in self.old.nodes block) ∷ stack_in self.old)
             (tree_in self.old.nodes body) (mark_of kind) (place false 0 []))
             result self.new }
+        ensures once { Spends (λ w. cases_weight w tests blocks + begun_weight w block + w body) self.old result self.new }
     {
         let node = Node::If {
             tests,
@@ -167,6 +174,8 @@ impl Parser {
             (end_block (block_in self.old.nodes (OverNumbers numeric) ∷ stack_in self.old) (tree_in self.old.nodes body) (mark_of kind) (place true 0 []))
             (end_block (block_in self.old.nodes (OverNumbers numeric) ∷ stack_in self.old) (tree_in self.old.nodes body) (mark_of kind) (place false 0 []))
             result self.new }
+        ensures once { Spends (λ w. w numeric.first + w numeric.last + maybe_weight w numeric.step
+            + begun_weight w numeric.block + w body) self.old result self.new }
     {
         let NumericFor {
             line,
@@ -199,6 +208,8 @@ impl Parser {
             (end_block (block_in self.old.nodes (OverIterators generic) ∷ stack_in self.old) (tree_in self.old.nodes body) (mark_of kind) (place true 0 []))
             (end_block (block_in self.old.nodes (OverIterators generic) ∷ stack_in self.old) (tree_in self.old.nodes body) (mark_of kind) (place false 0 []))
             result self.new }
+        ensures once { Spends (λ w. list_weight w generic.exps
+            + begun_weight w generic.block + w body) self.old result self.new }
     {
         let GenericFor {
             line,
@@ -228,6 +239,7 @@ impl Parser {
             (ended (begun_in self.old.nodes block) (node_tree (tree_in self.old.nodes) 0 line node) (stack_in self.old) (mark_of kind))
             (ended (begun_in self.old.nodes block) (node_tree (tree_in self.old.nodes) 0 line node) (stack_in self.old) (mark_of kind))
             result self.new }
+        ensures once { Spends (λ w. begun_weight w block + parts_weight w node) self.old result self.new }
     {
         match kind {
             Some(TokenKind::End) => {
@@ -260,6 +272,7 @@ impl Parser {
             (end_block (InThen line (cases_of (tree_in self.old.nodes) tests blocks) (tree_in self.old.nodes test) (begun_in self.old.nodes block) ∷ stack_in self.old)
             (tree_in self.old.nodes body) (mark_of kind) (place false 0 []))
             result self.new }
+        ensures once { Spends (λ w. cases_weight w tests blocks + w test + begun_weight w block + w body) self.old result self.new }
     {
         tests.push(test)?;
         blocks.push(body)?;
@@ -281,6 +294,7 @@ impl Parser {
             (after_cases line (cases_of (tree_in self.old.nodes) tests blocks) (begun_in self.old.nodes block) (stack_in self.old) (mark_of kind) (place true 0 []))
             (after_cases line (cases_of (tree_in self.old.nodes) tests blocks) (begun_in self.old.nodes block) (stack_in self.old) (mark_of kind) (place false 0 []))
             result self.new }
+        ensures once { Spends (λ w. cases_weight w tests blocks + begun_weight w block) self.old result self.new }
     {
         match kind {
             Some(TokenKind::End) => {

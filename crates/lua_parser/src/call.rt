@@ -1,6 +1,6 @@
 //! Calls and table constructors (Lua 5.2 manual, 3.4.8 and 3.4.9).
 
-ghost use Rattle.std.specs.Prelude.{◌≡◌, ◌<◌, true, false, length, IfOk};
+ghost use Rattle.std.specs.Prelude.{◌+◌, ◌≡◌, ◌<◌, true, false, length, IfOk};
 ghost use Rattle.lua_ast.specs.Tree.{Table, none, snoc};
 ghost use Rattle.lua_ast.specs.Decode.{list_of, fields_of, AllBelow};
 ghost use Rattle.lua_grammar.specs.Signs.{token};
@@ -8,6 +8,8 @@ ghost use Rattle.lua_lexer.specs.declared.token.TokenKind.TheVariants.{Text};
 ghost use Rattle.lua_grammar.specs.Pushdown.{Have, call_of, args_begin, made, field_done};
 ghost use Rattle.lua_parser.specs.Shown.{tree_in, stack_in, state_in, callee_in, purpose_in, place, CalleeBelow, TableBelow, StateBelow};
 ghost use Rattle.lua_parser.specs.Gave.{Gave};
+ghost use Rattle.lua_ast.specs.Weights.{list_weight};
+ghost use Rattle.lua_parser.specs.Weights.{Spends, callee_weight, table_weight};
 
 use crate::frame::{BegunTable, Callee, Purpose};
 use crate::parser::Parser;
@@ -25,6 +27,7 @@ impl Parser {
         ensures state { IfOk result (λ s. state_in self.new.nodes (stack_in self.new) s
             ≡ Have limit (call_of (callee_in self.old.nodes callee) (list_of (tree_in self.old.nodes) args)) (stack_in self.old)) }
         ensures below { IfOk result (λ s. StateBelow (length self.new.nodes) s) }
+        ensures once { Spends (λ w. callee_weight w callee + list_weight w args) self.old result self.new }
     {
         match callee {
             Callee::Function { function } => {
@@ -46,6 +49,7 @@ impl Parser {
         ensures state { IfOk result (λ s. state_in self.new.nodes (stack_in self.new) s
             ≡ Have limit (call_of (callee_in self.old.nodes callee) (snoc none (tree_in self.old.nodes arg))) (stack_in self.old)) }
         ensures below { IfOk result (λ s. StateBelow (length self.new.nodes) s) }
+        ensures once { Spends (λ w. callee_weight w callee + w arg) self.old result self.new }
     {
         let mut args = Ids::new(self.alloc());
         args.push(arg)?;
@@ -66,6 +70,7 @@ impl Parser {
             (args_begin limit (callee_in self.old.nodes callee) (stack_in self.old) (token Text) (place true line slice.now))
             (args_begin limit (callee_in self.old.nodes callee) (stack_in self.old) (token Text) (place false line slice.now))
             result self.new }
+        ensures once { Spends (λ w. callee_weight w callee) self.old result self.new }
     {
         let bytes = text_value(self.alloc(), slice)?;
         let value = Literal::Text(AstText::from_vec(bytes));
@@ -88,6 +93,7 @@ impl Parser {
             (args_begin limit (callee_in self.old.nodes callee) (stack_in self.old) (token kind) (place true line slice.now))
             (args_begin limit (callee_in self.old.nodes callee) (stack_in self.old) (token kind) (place false line slice.now))
             result self.new }
+        ensures once { Spends (λ w. callee_weight w callee) self.old result self.new }
     {
         match kind {
             TokenKind::OpenParen => self.deepen(State::ArgsOpen { limit, callee }),
@@ -111,6 +117,7 @@ impl Parser {
         ensures state { IfOk result (λ s. state_in self.new.nodes (stack_in self.new) s
             ≡ made (purpose_in self.old.nodes table.purpose) (Table 0 table.line (fields_of (tree_in self.old.nodes) table.fields)) (stack_in self.old)) }
         ensures below { IfOk result (λ s. StateBelow (length self.new.nodes) s) }
+        ensures once { Spends (λ w. table_weight w table) self.old result self.new }
     {
         let BegunTable {
             purpose,
@@ -131,6 +138,7 @@ impl Parser {
             (field_done (purpose_in self.old.nodes table.purpose) table.line (fields_of (tree_in self.old.nodes) table.fields) (stack_in self.old) (token kind))
             (field_done (purpose_in self.old.nodes table.purpose) table.line (fields_of (tree_in self.old.nodes) table.fields) (stack_in self.old) (token kind))
             result self.new }
+        ensures once { Spends (λ w. table_weight w table) self.old result self.new }
     {
         match kind {
             TokenKind::Comma | TokenKind::Semicolon => Ok(State::FieldNext { table }),

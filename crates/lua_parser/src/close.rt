@@ -1,10 +1,12 @@
 //! What goes on where an expression is over.
 
-ghost use Rattle.std.specs.Prelude.{◌<◌, [], true, false, length, Some, None};
+ghost use Rattle.std.specs.Prelude.{◌+◌, ◌<◌, [], true, false, length, Some, None};
 ghost use Rattle.lua_ast.specs.Decode.{list_of, fields_of, AllBelow};
 ghost use Rattle.lua_grammar.specs.Pushdown.{InParen, InIndex, InArgs, InKey, InTargets, InLocal, InAssign, InReturn, InStat, close};
 ghost use Rattle.lua_parser.specs.Shown.{tree_in, stack_in, begun_in, callee_in, purpose_in, statement_in, place, BegunBelow, CalleeBelow, TableBelow, StatementBelow};
 ghost use Rattle.lua_parser.specs.Gave.{Gave, call_statement, mark_of};
+ghost use Rattle.lua_ast.specs.Weights.{list_weight};
+ghost use Rattle.lua_parser.specs.Weights.{Spends, begun_weight, callee_weight, statement_weight, table_weight};
 
 use crate::frame::{Begun, BegunTable, Callee, Frame, OpenStatement};
 use crate::parser::Parser;
@@ -27,6 +29,7 @@ impl Parser {
             (close (InParen limit line) (tree_in self.old.nodes had) (stack_in self.old) (mark_of kind) (place true 0 []))
             (close (InParen limit line) (tree_in self.old.nodes had) (stack_in self.old) (mark_of kind) (place false 0 []))
             result self.new }
+        ensures once { Spends (λ w. w had) self.old result self.new }
     {
         match kind {
             Some(TokenKind::CloseParen) => Ok(self.give(limit, Node::Paren { inner: had }, line)?),
@@ -48,6 +51,7 @@ impl Parser {
             (close (InIndex limit (tree_in self.old.nodes object)) (tree_in self.old.nodes had) (stack_in self.old) (mark_of kind) (place true 0 []))
             (close (InIndex limit (tree_in self.old.nodes object)) (tree_in self.old.nodes had) (stack_in self.old) (mark_of kind) (place false 0 []))
             result self.new }
+        ensures once { Spends (λ w. w object + w had) self.old result self.new }
     {
         match kind {
             Some(TokenKind::CloseBracket) => {
@@ -59,7 +63,7 @@ impl Parser {
     }
 
     /// `,` or `)` behind an argument.
-    #[tactic(auto, using(lua_ast::proofs::Growing::list_of_push, lua_ast::proofs::PlacesBelow::below_push))]
+    #[tactic(auto, using(lua_ast::proofs::Growing::list_of_push, lua_ast::proofs::PlacesBelow::below_push, crate::proofs::Weighing::list_push))]
     pub fn close_args(
         &mut self,
         limit: u8,
@@ -75,6 +79,7 @@ impl Parser {
             (close (InArgs limit (callee_in self.old.nodes callee) (list_of (tree_in self.old.nodes) args)) (tree_in self.old.nodes had) (stack_in self.old) (mark_of kind) (place true 0 []))
             (close (InArgs limit (callee_in self.old.nodes callee) (list_of (tree_in self.old.nodes) args)) (tree_in self.old.nodes had) (stack_in self.old) (mark_of kind) (place false 0 []))
             result self.new }
+        ensures once { Spends (λ w. callee_weight w callee + list_weight w args + w had) self.old result self.new }
     {
         args.push(had)?;
         match kind {
@@ -104,6 +109,7 @@ impl Parser {
             (close (InKey (purpose_in self.old.nodes table.purpose) table.line (fields_of (tree_in self.old.nodes) table.fields)) (tree_in self.old.nodes had) (stack_in self.old) (mark_of kind) (place true 0 []))
             (close (InKey (purpose_in self.old.nodes table.purpose) table.line (fields_of (tree_in self.old.nodes) table.fields)) (tree_in self.old.nodes had) (stack_in self.old) (mark_of kind) (place false 0 []))
             result self.new }
+        ensures once { Spends (λ w. table_weight w table + w had) self.old result self.new }
     {
         match kind {
             Some(TokenKind::CloseBracket) => Ok(State::KeyEnd { table, key: had }),
@@ -126,6 +132,7 @@ impl Parser {
             (close (statement_in self.old.nodes statement) (tree_in self.old.nodes had) (stack_in self.old) (mark_of kind) (place true line slice.now))
             (close (statement_in self.old.nodes statement) (tree_in self.old.nodes had) (stack_in self.old) (mark_of kind) (place false line slice.now))
             result self.new }
+        ensures once { Spends (λ w. statement_weight w statement + w had) self.old result self.new }
     {
         match statement {
             OpenStatement::Local {
@@ -164,7 +171,7 @@ impl Parser {
     }
 
     /// `,` behind an expression of a `local`, or what follows the last one.
-    #[tactic(auto, using(lua_ast::proofs::Growing::list_of_push, lua_ast::proofs::PlacesBelow::below_push))]
+    #[tactic(auto, using(lua_ast::proofs::Growing::list_of_push, lua_ast::proofs::PlacesBelow::below_push, crate::proofs::Weighing::list_push))]
     fn close_local(
         &mut self,
         own: u32,
@@ -183,6 +190,7 @@ impl Parser {
             (close (InLocal own names (list_of (tree_in self.old.nodes) exps) (begun_in self.old.nodes block)) (tree_in self.old.nodes had) (stack_in self.old) (mark_of kind) (place true line slice.now))
             (close (InLocal own names (list_of (tree_in self.old.nodes) exps) (begun_in self.old.nodes block)) (tree_in self.old.nodes had) (stack_in self.old) (mark_of kind) (place false line slice.now))
             result self.new }
+        ensures once { Spends (λ w. list_weight w exps + begun_weight w block + w had) self.old result self.new }
     {
         exps.push(had)?;
         let Some(token) = kind else {
@@ -210,7 +218,7 @@ impl Parser {
     }
 
     /// `,` behind an expression of an assignment, or what follows the last one.
-    #[tactic(auto, using(lua_ast::proofs::Growing::list_of_push, lua_ast::proofs::PlacesBelow::below_push))]
+    #[tactic(auto, using(lua_ast::proofs::Growing::list_of_push, lua_ast::proofs::PlacesBelow::below_push, crate::proofs::Weighing::list_push))]
     fn close_assign(
         &mut self,
         own: u32,
@@ -230,6 +238,7 @@ impl Parser {
             (close (InAssign own (list_of (tree_in self.old.nodes) targets) (list_of (tree_in self.old.nodes) exps) (begun_in self.old.nodes block)) (tree_in self.old.nodes had) (stack_in self.old) (mark_of kind) (place true line slice.now))
             (close (InAssign own (list_of (tree_in self.old.nodes) targets) (list_of (tree_in self.old.nodes) exps) (begun_in self.old.nodes block)) (tree_in self.old.nodes had) (stack_in self.old) (mark_of kind) (place false line slice.now))
             result self.new }
+        ensures once { Spends (λ w. list_weight w targets + list_weight w exps + begun_weight w block + w had) self.old result self.new }
     {
         exps.push(had)?;
         let Some(token) = kind else {
@@ -264,7 +273,7 @@ impl Parser {
     }
 
     /// `,` or `;` behind an expression of a `return`, or the end of its block.
-    #[tactic(auto, using(lua_ast::proofs::Growing::list_of_push, lua_ast::proofs::PlacesBelow::below_push))]
+    #[tactic(auto, using(lua_ast::proofs::Growing::list_of_push, lua_ast::proofs::PlacesBelow::below_push, crate::proofs::Weighing::list_push))]
     fn close_return(
         &mut self,
         own: u32,
@@ -280,6 +289,7 @@ impl Parser {
             (close (InReturn own (list_of (tree_in self.old.nodes) exps) (begun_in self.old.nodes block)) (tree_in self.old.nodes had) (stack_in self.old) (mark_of kind) (place true 0 []))
             (close (InReturn own (list_of (tree_in self.old.nodes) exps) (begun_in self.old.nodes block)) (tree_in self.old.nodes had) (stack_in self.old) (mark_of kind) (place false 0 []))
             result self.new }
+        ensures once { Spends (λ w. list_weight w exps + begun_weight w block + w had) self.old result self.new }
     {
         exps.push(had)?;
         let Some(token) = kind else {
@@ -318,6 +328,7 @@ impl Parser {
             (close (InStat (begun_in self.old.nodes block)) (tree_in self.old.nodes had) (stack_in self.old) (mark_of kind) (place true line slice.now))
             (close (InStat (begun_in self.old.nodes block)) (tree_in self.old.nodes had) (stack_in self.old) (mark_of kind) (place false line slice.now))
             result self.new }
+        ensures once { Spends (λ w. begun_weight w block + w had) self.old result self.new }
     {
         let own = self.line(had);
         let Some(token) = kind else {
@@ -348,6 +359,7 @@ impl Parser {
             (call_statement own (tree_in self.old.nodes had) (begun_in self.old.nodes block) (stack_in self.old) (mark_of kind) (place true line slice.now))
             (call_statement own (tree_in self.old.nodes had) (begun_in self.old.nodes block) (stack_in self.old) (mark_of kind) (place false line slice.now))
             result self.new }
+        ensures once { Spends (λ w. begun_weight w block + w had) self.old result self.new }
     {
         if !self.is_call(had) {
             return Err(Refusal::Unexpected);
@@ -371,6 +383,7 @@ impl Parser {
             (close (InTargets own (list_of (tree_in self.old.nodes) targets) (begun_in self.old.nodes block)) (tree_in self.old.nodes had) (stack_in self.old) (mark_of kind) (place true 0 []))
             (close (InTargets own (list_of (tree_in self.old.nodes) targets) (begun_in self.old.nodes block)) (tree_in self.old.nodes had) (stack_in self.old) (mark_of kind) (place false 0 []))
             result self.new }
+        ensures once { Spends (λ w. list_weight w targets + begun_weight w block + w had) self.old result self.new }
     {
         match kind {
             Some(token) => self.add_target(own, targets, block, had, token),
@@ -379,7 +392,7 @@ impl Parser {
     }
 
     /// `=` or `,` behind a target of an assignment.
-    #[tactic(auto, using(lua_ast::proofs::Growing::list_of_push, lua_ast::proofs::PlacesBelow::below_push, crate::proofs::Lists::list_of_none))]
+    #[tactic(auto, using(lua_ast::proofs::Growing::list_of_push, lua_ast::proofs::PlacesBelow::below_push, crate::proofs::Lists::list_of_none, crate::proofs::Weighing::list_push))]
     fn add_target(
         &mut self,
         own: u32,
@@ -395,6 +408,7 @@ impl Parser {
             (close (InTargets own (list_of (tree_in self.old.nodes) targets) (begun_in self.old.nodes block)) (tree_in self.old.nodes had) (stack_in self.old) (mark_of (Some token)) (place true 0 []))
             (close (InTargets own (list_of (tree_in self.old.nodes) targets) (begun_in self.old.nodes block)) (tree_in self.old.nodes had) (stack_in self.old) (mark_of (Some token)) (place false 0 []))
             result self.new }
+        ensures once { Spends (λ w. list_weight w targets + begun_weight w block + w had) self.old result self.new }
     {
         if !self.is_var(had) {
             return Err(Refusal::Unexpected);

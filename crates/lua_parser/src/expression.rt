@@ -5,6 +5,7 @@ ghost use Rattle.lua_grammar.specs.Signs.{token};
 ghost use Rattle.lua_grammar.specs.Pushdown.{begin, begin_unary};
 ghost use Rattle.lua_parser.specs.Shown.{stack_in, place};
 ghost use Rattle.lua_parser.specs.Gave.{Gave, IsSmall};
+ghost use Rattle.lua_parser.specs.Weights.{Spends};
 
 use crate::frame::{BegunTable, Callee, Frame, Head, Purpose};
 use crate::literal::{literal, unary_operator};
@@ -27,6 +28,7 @@ impl Parser {
         requires { IsSmall kind slice.now }
         ensures gave { Gave (begin limit (stack_in self.old) (token kind) (place true line slice.now))
             (begin limit (stack_in self.old) (token kind) (place false line slice.now)) result self.new }
+        ensures once { Spends (λ _. 0) self.old result self.new }
     {
         match kind {
             TokenKind::Ellipsis => Ok(self.give(limit, Node::Vararg, line)?),
@@ -56,6 +58,7 @@ impl Parser {
     fn begin_unary(&mut self, limit: u8, op: Option<UnOp>, line: u32) -> Result<State, Refusal>
         ensures gave { Gave (begin_unary limit (stack_in self.old) (place true line []) op)
             (begin_unary limit (stack_in self.old) (place false line []) op) result self.new }
+        ensures once { Spends (λ _. 0) self.old result self.new }
     {
         let Some(op) = op else {
             return Err(Refusal::Unexpected);

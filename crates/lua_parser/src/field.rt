@@ -1,11 +1,13 @@
 //! Arguments and fields (Lua 5.2 manual, 3.4.8 and 3.4.9).
 
-ghost use Rattle.std.specs.Prelude.{◌<◌, true, false, length, Some, None};
+ghost use Rattle.std.specs.Prelude.{◌+◌, ◌<◌, true, false, length, Some, None};
 ghost use Rattle.lua_ast.specs.Decode.{fields_of, with_field, FieldBelow};
 ghost use Rattle.lua_grammar.specs.Signs.{token};
 ghost use Rattle.lua_grammar.specs.Pushdown.{args_open, field_next, field_done, key_end};
 ghost use Rattle.lua_parser.specs.Shown.{tree_in, stack_in, callee_in, purpose_in, place, CalleeBelow, TableBelow};
 ghost use Rattle.lua_parser.specs.Gave.{Gave, IsSmall, mark_of};
+ghost use Rattle.lua_ast.specs.Weights.{field_weight};
+ghost use Rattle.lua_parser.specs.Weights.{Spends, callee_weight, table_weight};
 
 use crate::frame::{BegunTable, Callee, Frame};
 use crate::parser::Parser;
@@ -31,6 +33,7 @@ impl Parser {
             (args_open limit (callee_in self.old.nodes callee) (stack_in self.old) (token kind) (place true line slice.now))
             (args_open limit (callee_in self.old.nodes callee) (stack_in self.old) (token kind) (place false line slice.now))
             result self.new }
+        ensures once { Spends (λ w. callee_weight w callee) self.old result self.new }
     {
         let args = Ids::new(self.alloc());
         match kind {
@@ -62,6 +65,7 @@ impl Parser {
             (field_next (purpose_in self.old.nodes table.purpose) table.line (fields_of (tree_in self.old.nodes) table.fields) (stack_in self.old) (token kind) (place true line slice.now))
             (field_next (purpose_in self.old.nodes table.purpose) table.line (fields_of (tree_in self.old.nodes) table.fields) (stack_in self.old) (token kind) (place false line slice.now))
             result self.new }
+        ensures once { Spends (λ w. table_weight w table) self.old result self.new }
     {
         match kind {
             TokenKind::CloseBrace => Ok(self.table(table)?),
@@ -91,6 +95,7 @@ impl Parser {
             (key_end (purpose_in self.old.nodes table.purpose) table.line (fields_of (tree_in self.old.nodes) table.fields) (tree_in self.old.nodes key) (stack_in self.old) (token kind))
             (key_end (purpose_in self.old.nodes table.purpose) table.line (fields_of (tree_in self.old.nodes) table.fields) (tree_in self.old.nodes key) (stack_in self.old) (token kind))
             result self.new }
+        ensures once { Spends (λ w. table_weight w table + w key) self.old result self.new }
     {
         match kind {
             TokenKind::Assign => {
@@ -102,7 +107,7 @@ impl Parser {
     }
 
     /// A field was read, and this sign is behind it.
-    #[tactic(auto, using(lua_ast::proofs::Growing::fields_of_push, lua_ast::proofs::PlacesBelow::fields_below_push))]
+    #[tactic(auto, using(lua_ast::proofs::Growing::fields_of_push, lua_ast::proofs::PlacesBelow::fields_below_push, crate::proofs::Weighing::fields_push))]
     pub fn field_over(
         &mut self,
         mut table: BegunTable,
@@ -115,6 +120,7 @@ impl Parser {
             (field_done (purpose_in self.old.nodes table.purpose) table.line (with_field (tree_in self.old.nodes) (fields_of (tree_in self.old.nodes) table.fields) field) (stack_in self.old) (mark_of kind))
             (field_done (purpose_in self.old.nodes table.purpose) table.line (with_field (tree_in self.old.nodes) (fields_of (tree_in self.old.nodes) table.fields) field) (stack_in self.old) (mark_of kind))
             result self.new }
+        ensures once { Spends (λ w. table_weight w table + field_weight w field) self.old result self.new }
     {
         table.fields.push(field)?;
         match kind {

@@ -1,6 +1,6 @@
 //! What follows an expression.
 
-ghost use Rattle.std.specs.Prelude.{◌≡◌, ◌<◌, true, false, length, Some, None, IfOk, OnOk};
+ghost use Rattle.std.specs.Prelude.{◌+◌, ◌≡◌, ◌<◌, true, false, length, Some, None, IfOk, OnOk};
 ghost use Rattle.lua_grammar.specs.Pushdown.{close, follow, rest, field_name};
 ghost use Rattle.lua_grammar.specs.Operators.{joined};
 ghost use Rattle.lua_grammar.specs.Signs.{token};
@@ -8,6 +8,7 @@ ghost use Rattle.lua_ast.specs.Decode.{fields_of};
 ghost use Rattle.lua_parser.specs.Shown.{tree_in, stack_in, frame_in, operator_in, purpose_in, place, TableBelow, FrameBelow};
 ghost use Rattle.lua_parser.specs.Gave.{Gave, mark_of};
 ghost use Rattle.lua_parser.specs.Follows.{Folds, IsKept, IsFewer, Follows};
+ghost use Rattle.lua_parser.specs.Weights.{Balances, FoldsOnce, FollowsOnce, Spends, frame_weight, table_weight};
 
 use crate::frame::{BegunTable, Frame, Operation};
 use crate::parser::Parser;
@@ -34,6 +35,7 @@ impl Parser {
             (close (frame_in self.old.nodes frame) (tree_in self.old.nodes had) (stack_in self.old) (mark_of kind) (place true line slice.now))
             (close (frame_in self.old.nodes frame) (tree_in self.old.nodes had) (stack_in self.old) (mark_of kind) (place false line slice.now))
             result self.new }
+        ensures once { Spends (λ w. frame_weight w frame + w had) self.old result self.new }
     {
         match frame {
             Frame::InParen { limit, line } => self.close_paren(limit, line, had, kind),
@@ -67,6 +69,7 @@ impl Parser {
         ensures folds { IfOk result (λ folded. Folds (stack_in self.old) (tree_in self.old.nodes had) folded self.new) }
         ensures kept { IfOk result (λ folded. IsKept folded self.old.nodes self.new.nodes) }
         ensures fewer { IfOk result (λ folded. IsFewer folded (length self.old.frames) (length self.new.frames)) }
+        ensures once { IfOk result (λ folded. FoldsOnce had self.old folded self.new) }
     {
         let Some(frame) = self.pop() else {
             return Ok(Folded::Nothing);
@@ -98,6 +101,8 @@ impl Parser {
         ensures within { IfOk result (λ id. id < length self.new.nodes) }
         ensures stack { OnOk result (stack_in self.new ≡ stack_in self.old) }
         ensures frames { OnOk result (self.new.frames ≡ self.old.frames) }
+        ensures once { IfOk result (λ id.
+            Balances (λ w. w left + w right) self.old (λ w. w id) self.new) }
     {
         let line = self.line(left);
         match op {
@@ -120,6 +125,7 @@ impl Parser {
             (follow (stack_in self.old) limit (tree_in self.old.nodes had) (mark_of kind) (place true line slice.now))
             (follow (stack_in self.old) limit (tree_in self.old.nodes had) (mark_of kind) (place false line slice.now))
             (mark_of kind) line slice.now (length self.old.frames) result self.new }
+        ensures once { FollowsOnce had self.old result self.new }
     {
         match self.suffix_at(limit, had, kind) {
             Some(suffix) => match self.extend(suffix, limit, had, kind, line, slice) {
@@ -143,6 +149,7 @@ impl Parser {
             (rest (stack_in self.old) (tree_in self.old.nodes had) (mark_of kind) (place true line slice.now))
             (rest (stack_in self.old) (tree_in self.old.nodes had) (mark_of kind) (place false line slice.now))
             (mark_of kind) line slice.now (length self.old.frames) result self.new }
+        ensures once { FollowsOnce had self.old result self.new }
     {
         match self.fold(had)? {
             Folded::Operation(operand) => Ok(Followed::Over(operand)),
@@ -168,6 +175,7 @@ impl Parser {
             (follow (stack_in self.old) limit (tree_in self.old.nodes had) (mark_of kind) (place true line slice.now))
             (follow (stack_in self.old) limit (tree_in self.old.nodes had) (mark_of kind) (place false line slice.now))
             result self.new }
+        ensures once { Spends (λ w. w had) self.old result self.new }
     {
         let mut operand = Operand { limit, node: had };
         'operands: loop {
@@ -194,6 +202,7 @@ impl Parser {
             (field_name (purpose_in self.old.nodes table.purpose) table.line (fields_of (tree_in self.old.nodes) table.fields) own name (stack_in self.old) (token kind) (place true line slice.now))
             (field_name (purpose_in self.old.nodes table.purpose) table.line (fields_of (tree_in self.old.nodes) table.fields) own name (stack_in self.old) (token kind) (place false line slice.now))
             result self.new }
+        ensures once { Spends (λ w. table_weight w table) self.old result self.new }
     {
         match kind {
             TokenKind::Assign => {

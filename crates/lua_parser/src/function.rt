@@ -1,12 +1,14 @@
 //! Functions (Lua 5.2 manual, 3.4.10).
 
-ghost use Rattle.std.specs.Prelude.{◌≡◌, ◌<◌, ◌∷◌, ◌++◌, [], suc, true, false, length, Some, IfOk};
+ghost use Rattle.std.specs.Prelude.{◌+◌, ◌≡◌, ◌<◌, ◌∷◌, ◌++◌, [], suc, true, false, length, Some, IfOk};
 ghost use Rattle.lua_ast.specs.Tree.{Function, Assign, LocalFunction, none, snoc};
 ghost use Rattle.lua_ast.specs.Decode.{PartsBelow, node_tree};
 ghost use Rattle.lua_grammar.specs.Signs.{token};
 ghost use Rattle.lua_grammar.specs.Pushdown.{BlockNext, StatNext, InFunction, add, depth, finished, own_line, given_of, body_next, path_next, param_first, param_next, param_names, params_end};
 ghost use Rattle.lua_parser.specs.Shown.{tree_in, stack_in, state_in, begun_in, head_in, given, place, BegunBelow, HeadBelow, StateBelow};
 ghost use Rattle.lua_parser.specs.Gave.{Gave, within};
+ghost use Rattle.lua_ast.specs.Weights.{parts_weight};
+ghost use Rattle.lua_parser.specs.Weights.{Spends, begun_weight, head_weight, state_weight};
 
 use crate::frame::{Begun, Frame, Head, OpenBlock};
 use crate::parser::Parser;
@@ -23,6 +25,7 @@ impl Parser {
         requires { StateBelow (length self.now.nodes) state }
         ensures gave { Gave (within (suc (suc (depth (stack_in self.now)))) (state_in self.now.nodes (stack_in self.now) state))
             (Some (state_in self.now.nodes (stack_in self.now) state)) result self.now }
+        ensures once { Spends (λ w. state_weight w state) self.now result self.now }
     {
         if self.depth() >= 199 {
             return Err(Refusal::TooDeep);
@@ -37,6 +40,7 @@ impl Parser {
             (body_next (head_in self.old.nodes head) (stack_in self.old) (token kind) (place true 0 []))
             (body_next (head_in self.old.nodes head) (stack_in self.old) (token kind) (place false 0 []))
             result self.new }
+        ensures once { Spends (λ w. head_weight w head) self.old result self.new }
     {
         match kind {
             TokenKind::OpenParen => self.deepen_twice(State::ParamFirst { head }),
@@ -58,6 +62,7 @@ impl Parser {
             (path_next line (tree_in self.old.nodes path) (begun_in self.old.nodes block) (stack_in self.old) (token kind) (place true 0 []))
             (path_next line (tree_in self.old.nodes path) (begun_in self.old.nodes block) (stack_in self.old) (token kind) (place false 0 []))
             result self.new }
+        ensures once { Spends (λ w. w path + begun_weight w block) self.old result self.new }
     {
         match kind {
             TokenKind::Dot => Ok(State::NameNext {
@@ -90,6 +95,7 @@ impl Parser {
             (param_first (head_in self.old.nodes head) (stack_in self.old) (token kind) (place true 0 slice.now))
             (param_first (head_in self.old.nodes head) (stack_in self.old) (token kind) (place false 0 slice.now))
             result self.new }
+        ensures once { Spends (λ w. head_weight w head) self.old result self.new }
     {
         let mut params = Vec::new(self.alloc());
         match kind {
@@ -117,6 +123,7 @@ impl Parser {
             (param_next (head_in self.old.nodes head) params.items (stack_in self.old) (token kind) (place true 0 slice.now))
             (param_next (head_in self.old.nodes head) params.items (stack_in self.old) (token kind) (place false 0 slice.now))
             result self.new }
+        ensures once { Spends (λ w. head_weight w head) self.old result self.new }
     {
         match kind {
             TokenKind::Name => {
@@ -141,6 +148,7 @@ impl Parser {
             (param_names (head_in self.old.nodes head) params.items (stack_in self.old) (token kind))
             (param_names (head_in self.old.nodes head) params.items (stack_in self.old) (token kind))
             result self.new }
+        ensures once { Spends (λ w. head_weight w head) self.old result self.new }
     {
         match kind {
             TokenKind::Comma => Ok(State::ParamNext { head, params }),
@@ -161,6 +169,7 @@ impl Parser {
             (params_end (head_in self.old.nodes head) params.items (stack_in self.old) (token kind))
             (params_end (head_in self.old.nodes head) params.items (stack_in self.old) (token kind))
             result self.new }
+        ensures once { Spends (λ w. head_weight w head) self.old result self.new }
     {
         match kind {
             TokenKind::CloseParen => Ok(self.begin_body(head, params, true)?),
@@ -179,6 +188,7 @@ impl Parser {
         ensures state { IfOk result (λ s. state_in self.new.nodes (stack_in self.new) s
             ≡ BlockNext (InFunction (head_in self.old.nodes head) params.items vararg ∷ stack_in self.old)) }
         ensures below { IfOk result (λ s. StateBelow (length self.new.nodes) s) }
+        ensures once { Spends (λ w. head_weight w head) self.old result self.new }
     {
         self.push(Frame::InBlock(OpenBlock::Function {
             head,
@@ -203,6 +213,7 @@ impl Parser {
             (Function 0 (own_line (head_in self.old.nodes head)) (given_of (head_in self.old.nodes head) ++ params.items) vararg
             (tree_in self.old.nodes block))) }
         ensures below { IfOk result (λ s. StateBelow (length self.new.nodes) s) }
+        ensures once { Spends (λ w. head_weight w head + w block) self.old result self.new }
     {
         match head {
             Head::Anonymous { limit, line } => {
@@ -261,6 +272,7 @@ impl Parser {
             ≡ StatNext (add (begun_in self.old.nodes block) (Assign 0 line (snoc none (tree_in self.old.nodes target))
             (snoc none (node_tree (tree_in self.old.nodes) 0 line node)))) (stack_in self.old)) }
         ensures below { IfOk result (λ s. StateBelow (length self.new.nodes) s) }
+        ensures once { Spends (λ w. w target + parts_weight w node + begun_weight w block) self.old result self.new }
     {
         let function = self.add(node, line)?;
         let mut targets = Ids::new(self.alloc());
@@ -287,6 +299,7 @@ impl Parser {
             ≡ StatNext (add (begun_in self.old.nodes block) (LocalFunction 0 line name
             (node_tree (tree_in self.old.nodes) 0 own node))) (stack_in self.old)) }
         ensures below { IfOk result (λ s. StateBelow (length self.new.nodes) s) }
+        ensures once { Spends (λ w. parts_weight w node + begun_weight w block) self.old result self.new }
     {
         let function = self.add(node, own)?;
         let block = self.statement(block, Node::LocalFunction { name, function }, line)?;

@@ -1,11 +1,13 @@
 //! What stands before the block of a statement (Lua 5.2 manual, 3.3.4 and 3.3.5).
 
-ghost use Rattle.std.specs.Prelude.{◌<◌, [], ℕ, List, true, false, length};
+ghost use Rattle.std.specs.Prelude.{◌+◌, ◌<◌, [], ℕ, List, true, false, length};
 ghost use Rattle.lua_ast.specs.Decode.{cases_of};
 ghost use Rattle.lua_grammar.specs.Pushdown.{InWhileTest, InIfTest, InFirst, InLimit, InStep, close};
 ghost use Rattle.lua_parser.specs.Shown.{tree_in, stack_in, begun_in, header_in, place, BegunBelow, CasesBelow, HeaderBelow};
 ghost use Rattle.lua_parser.specs.declared.frame.OpenHeader.TheVariants.{Iterator};
 ghost use Rattle.lua_parser.specs.Gave.{Gave, mark_of};
+ghost use Rattle.lua_ast.specs.Weights.{list_weight, cases_weight};
+ghost use Rattle.lua_parser.specs.Weights.{Spends, begun_weight, header_weight};
 
 use crate::frame::{Begun, Frame, GenericFor, NumericFor, OpenBlock, OpenHeader};
 use crate::parser::Parser;
@@ -28,6 +30,7 @@ impl Parser {
             (close (header_in self.old.nodes header) (tree_in self.old.nodes had) (stack_in self.old) (mark_of kind) (place true line slice))
             (close (header_in self.old.nodes header) (tree_in self.old.nodes had) (stack_in self.old) (mark_of kind) (place false line slice))
             result self.new }
+        ensures once { Spends (λ w. header_weight w header + w had) self.old result self.new }
     {
         match header {
             OpenHeader::While { line, block } => self.close_while(line, block, had, kind),
@@ -71,6 +74,7 @@ impl Parser {
             (close (InWhileTest line (begun_in self.old.nodes block)) (tree_in self.old.nodes had) (stack_in self.old) (mark_of kind) (place true 0 []))
             (close (InWhileTest line (begun_in self.old.nodes block)) (tree_in self.old.nodes had) (stack_in self.old) (mark_of kind) (place false 0 []))
             result self.new }
+        ensures once { Spends (λ w. begun_weight w block + w had) self.old result self.new }
     {
         match kind {
             Some(TokenKind::Do) => self.enter_block(OpenBlock::While {
@@ -99,6 +103,7 @@ impl Parser {
             (close (InIfTest line (cases_of (tree_in self.old.nodes) tests blocks) (begun_in self.old.nodes block)) (tree_in self.old.nodes had) (stack_in self.old) (mark_of kind) (place true 0 []))
             (close (InIfTest line (cases_of (tree_in self.old.nodes) tests blocks) (begun_in self.old.nodes block)) (tree_in self.old.nodes had) (stack_in self.old) (mark_of kind) (place false 0 []))
             result self.new }
+        ensures once { Spends (λ w. cases_weight w tests blocks + begun_weight w block + w had) self.old result self.new }
     {
         match kind {
             Some(TokenKind::Then) => self.enter_block(OpenBlock::Then {
@@ -127,6 +132,7 @@ impl Parser {
             (close (InFirst line name (begun_in self.old.nodes block)) (tree_in self.old.nodes had) (stack_in self.old) (mark_of kind) (place true 0 []))
             (close (InFirst line name (begun_in self.old.nodes block)) (tree_in self.old.nodes had) (stack_in self.old) (mark_of kind) (place false 0 []))
             result self.new }
+        ensures once { Spends (λ w. begun_weight w block + w had) self.old result self.new }
     {
         match kind {
             Some(TokenKind::Comma) => {
@@ -159,6 +165,7 @@ impl Parser {
             (close (InLimit line name (tree_in self.old.nodes first) (begun_in self.old.nodes block)) (tree_in self.old.nodes had) (stack_in self.old) (mark_of kind) (place true 0 []))
             (close (InLimit line name (tree_in self.old.nodes first) (begun_in self.old.nodes block)) (tree_in self.old.nodes had) (stack_in self.old) (mark_of kind) (place false 0 []))
             result self.new }
+        ensures once { Spends (λ w. w first + begun_weight w block + w had) self.old result self.new }
     {
         match kind {
             Some(TokenKind::Comma) => {
@@ -202,6 +209,7 @@ impl Parser {
             (close (InStep line name (tree_in self.old.nodes first) (tree_in self.old.nodes last) (begun_in self.old.nodes block)) (tree_in self.old.nodes had) (stack_in self.old) (mark_of kind) (place true 0 []))
             (close (InStep line name (tree_in self.old.nodes first) (tree_in self.old.nodes last) (begun_in self.old.nodes block)) (tree_in self.old.nodes had) (stack_in self.old) (mark_of kind) (place false 0 []))
             result self.new }
+        ensures once { Spends (λ w. w first + w last + begun_weight w block + w had) self.old result self.new }
     {
         match kind {
             Some(TokenKind::Do) => self.enter_block(OpenBlock::NumericFor(NumericFor {
@@ -217,7 +225,7 @@ impl Parser {
     }
 
     /// `,` or `do` behind an expression of a `for` over iterators.
-    #[tactic(auto, using(lua_ast::proofs::Growing::list_of_push, lua_ast::proofs::PlacesBelow::below_push))]
+    #[tactic(auto, using(lua_ast::proofs::Growing::list_of_push, lua_ast::proofs::PlacesBelow::below_push, crate::proofs::Weighing::list_push))]
     fn close_iterator(
         &mut self,
         mut generic: GenericFor,
@@ -230,6 +238,8 @@ impl Parser {
             (close (header_in self.old.nodes (Iterator generic)) (tree_in self.old.nodes had) (stack_in self.old) (mark_of kind) (place true 0 []))
             (close (header_in self.old.nodes (Iterator generic)) (tree_in self.old.nodes had) (stack_in self.old) (mark_of kind) (place false 0 []))
             result self.new }
+        ensures once { Spends (λ w. list_weight w generic.exps
+            + begun_weight w generic.block + w had) self.old result self.new }
     {
         generic.exps.push(had)?;
         match kind {

@@ -1,12 +1,13 @@
 //! What goes on at a name.
 
-ghost use Rattle.std.specs.Prelude.{◌≡◌, ◌<◌, ◌≤◌, ◌∷◌, ◌++◌, [], true, false, length, IfOk, OnOk};
+ghost use Rattle.std.specs.Prelude.{◌+◌, ◌≡◌, ◌<◌, ◌≤◌, ◌∷◌, ◌++◌, [], true, false, length, IfOk, OnOk};
 ghost use Rattle.lua_grammar.specs.Signs.{token};
 ghost use Rattle.lua_grammar.specs.Grammar.{field_of};
 ghost use Rattle.lua_grammar.specs.Pushdown.{after_name, name_next, ForFunction};
 ghost use Rattle.lua_parser.specs.declared.frame.Begun.{Begun as begun};
 ghost use Rattle.lua_parser.specs.Shown.{tree_in, stack_in, state_in, begun_in, naming_in, place, after_path, BegunBelow, NamingBelow, StateBelow};
 ghost use Rattle.lua_parser.specs.Gave.{Gave};
+ghost use Rattle.lua_parser.specs.Weights.{Balances, Spends, begun_weight, naming_weight};
 
 use crate::frame::{Begun, Callee, Head};
 use crate::parser::Parser;
@@ -36,6 +37,8 @@ impl Parser {
         ensures more { OnOk result (length self.old.nodes ≤ length self.new.nodes) }
         ensures begun { OnOk result ((b : begun) → BegunBelow (length self.old.nodes) b →
             begun_in self.new.nodes b ≡ begun_in self.old.nodes b) }
+        ensures once { IfOk result (λ id.
+            Balances (λ w. w object) self.old (λ w. w id) self.new) }
     {
         let first_line = self.line(object);
         let value = Literal::Text(name);
@@ -59,6 +62,7 @@ impl Parser {
         ensures state { IfOk result (λ s. state_in self.new.nodes (stack_in self.new) s
             ≡ after_path (tree_in self.old.nodes object) method own (begun_in self.old.nodes block) (place true line name) (stack_in self.old)) }
         ensures below { IfOk result (λ s. StateBelow (length self.new.nodes) s) }
+        ensures once { Spends (λ w. w object + begun_weight w block) self.old result self.new }
     {
         let path = self.field(object, line, name)?;
         if method {
@@ -91,6 +95,7 @@ impl Parser {
         ensures state { IfOk result (λ s. state_in self.new.nodes (stack_in self.new) s
             ≡ after_name (ForFunction own (begun_in self.old.nodes block)) (stack_in self.old) (place true line name)) }
         ensures below { IfOk result (λ s. StateBelow (length self.new.nodes) s) }
+        ensures once { Spends (λ w. begun_weight w block) self.old result self.new }
     {
         let path = self.add(Node::Name { text: name }, line)?;
         Ok(State::PathNext {
@@ -111,6 +116,7 @@ impl Parser {
         ensures state { IfOk result (λ s. state_in self.new.nodes (stack_in self.new) s
             ≡ after_name (naming_in self.old.nodes naming) (stack_in self.old) (place true name_line name)) }
         ensures below { IfOk result (λ s. StateBelow (length self.new.nodes) s) }
+        ensures once { Spends (λ w. naming_weight w naming) self.old result self.new }
     {
         match naming {
             Naming::ForField { limit, object } => {
@@ -169,6 +175,7 @@ impl Parser {
             (name_next (naming_in self.old.nodes naming) (stack_in self.old) (token kind) (place true line slice.now))
             (name_next (naming_in self.old.nodes naming) (stack_in self.old) (token kind) (place false line slice.now))
             result self.new }
+        ensures once { Spends (λ w. naming_weight w naming) self.old result self.new }
     {
         match kind {
             TokenKind::Name => {

@@ -1,12 +1,14 @@
 //! Statements (Lua 5.2 manual, 3.3 and section 9).
 
-ghost use Rattle.std.specs.Prelude.{◌≡◌, ◌∷◌, [], ℕ, List, true, false, length, Some, None, IfOk};
+ghost use Rattle.std.specs.Prelude.{◌+◌, ◌≡◌, ◌∷◌, [], ℕ, List, true, false, length, Some, None, IfOk};
 ghost use Rattle.lua_ast.specs.Decode.{PartsBelow, node_tree, list_of, AllBelow};
 ghost use Rattle.lua_lexer.specs.declared.token.TokenKind.TheVariants.{In};
 ghost use Rattle.lua_grammar.specs.Signs.{token};
 ghost use Rattle.lua_grammar.specs.Pushdown.{add, next, end_block, block_of, begin, label_end, local_next, local_names, for_name, for_names, target_next, return_next};
 ghost use Rattle.lua_parser.specs.Shown.{tree_in, stack_in, begun_in, statement_in, frame_in, place, BegunBelow, StatementBelow, FrameBelow};
 ghost use Rattle.lua_parser.specs.Gave.{Gave, IsSmall, IsSmallSign, begin_prefix, next_block, mark_of};
+ghost use Rattle.lua_ast.specs.Weights.{list_weight, parts_weight};
+ghost use Rattle.lua_parser.specs.Weights.{Spends, begun_weight, frame_weight, statement_weight};
 
 use crate::frame::{Begun, Frame, GenericFor, OpenBlock, OpenHeader, OpenStatement};
 use crate::parser::Parser;
@@ -30,6 +32,7 @@ impl Parser {
         ensures gave { Gave
             (begin 0 (frame_in self.old.nodes frame ∷ stack_in self.old) (token kind) (place true line slice.now))
             (begin 0 (frame_in self.old.nodes frame ∷ stack_in self.old) (token kind) (place false line slice.now)) result self.new }
+        ensures once { Spends (λ w. frame_weight w frame) self.old result self.new }
     {
         self.push(frame)?;
         self.begin(0, kind, line, slice)
@@ -48,6 +51,7 @@ impl Parser {
         ensures gave { Gave
             (begin_prefix (statement_in self.old.nodes statement) (stack_in self.old) (token kind) (place true line slice.now))
             (begin_prefix (statement_in self.old.nodes statement) (stack_in self.old) (token kind) (place false line slice.now)) result self.new }
+        ensures once { Spends (λ w. statement_weight w statement) self.old result self.new }
     {
         self.push(Frame::InStatement(statement))?;
         match kind {
@@ -73,6 +77,7 @@ impl Parser {
             (next (begun_in self.old.nodes block) (stack_in self.old) (mark_of kind) (place true line slice.now))
             (next (begun_in self.old.nodes block) (stack_in self.old) (mark_of kind) (place false line slice.now))
             result self.new }
+        ensures once { Spends (λ w. begun_weight w block) self.old result self.new }
     {
         match kind {
             Some(kind) => self.next_token(block, kind, line, slice),
@@ -92,6 +97,7 @@ impl Parser {
             (next (begun_in self.old.nodes block) (stack_in self.old) (token kind) (place true line slice.now))
             (next (begun_in self.old.nodes block) (stack_in self.old) (token kind) (place false line slice.now))
             result self.new }
+        ensures once { Spends (λ w. begun_weight w block) self.old result self.new }
     {
         match kind {
             TokenKind::Semicolon => Ok(State::StatNext { block }),
@@ -132,6 +138,7 @@ impl Parser {
             (next_block (begun_in self.old.nodes block) (stack_in self.old) (token kind) (place true line slice))
             (next_block (begun_in self.old.nodes block) (stack_in self.old) (token kind) (place false line slice))
             result self.new }
+        ensures once { Spends (λ w. begun_weight w block) self.old result self.new }
     {
         match kind {
             TokenKind::Do => self.enter_block(OpenBlock::Do { line, block }),
@@ -170,6 +177,7 @@ impl Parser {
             (next (add (begun_in self.old.nodes block) (node_tree (tree_in self.old.nodes) 0 own node)) (stack_in self.old) (mark_of kind) (place true line slice.now))
             (next (add (begun_in self.old.nodes block) (node_tree (tree_in self.old.nodes) 0 own node)) (stack_in self.old) (mark_of kind) (place false line slice.now))
             result self.new }
+        ensures once { Spends (λ w. begun_weight w block + parts_weight w node) self.old result self.new }
     {
         let block = self.statement(block, node, own)?;
         self.next(block, kind, line, slice)
@@ -189,6 +197,7 @@ impl Parser {
             (end_block (stack_in self.old) (block_of (add (begun_in self.old.nodes block) (node_tree (tree_in self.old.nodes) 0 own node))) (mark_of kind) (place true 0 []))
             (end_block (stack_in self.old) (block_of (add (begun_in self.old.nodes block) (node_tree (tree_in self.old.nodes) 0 own node))) (mark_of kind) (place false 0 []))
             result self.new }
+        ensures once { Spends (λ w. begun_weight w block + parts_weight w node) self.old result self.new }
     {
         let block = self.statement(block, node, own)?;
         self.end_block(block, kind)
@@ -207,6 +216,7 @@ impl Parser {
             (label_end line name (begun_in self.old.nodes block) (stack_in self.old) (token kind))
             (label_end line name (begun_in self.old.nodes block) (stack_in self.old) (token kind))
             result self.new }
+        ensures once { Spends (λ w. begun_weight w block) self.old result self.new }
     {
         match kind {
             TokenKind::DoubleColon => {
@@ -231,6 +241,7 @@ impl Parser {
             (local_next own (begun_in self.old.nodes block) (stack_in self.old) (token kind) (place true line slice.now))
             (local_next own (begun_in self.old.nodes block) (stack_in self.old) (token kind) (place false line slice.now))
             result self.new }
+        ensures once { Spends (λ w. begun_weight w block) self.old result self.new }
     {
         match kind {
             TokenKind::Name => {
@@ -279,6 +290,7 @@ impl Parser {
             (local_names own names (begun_in self.old.nodes block) (stack_in self.old) (mark_of kind) (place true line slice.now))
             (local_names own names (begun_in self.old.nodes block) (stack_in self.old) (mark_of kind) (place false line slice.now))
             result self.new }
+        ensures once { Spends (λ w. begun_weight w block) self.old result self.new }
     {
         let exps = Ids::new(self.alloc());
         let Some(token) = kind else {
@@ -327,6 +339,7 @@ impl Parser {
             (for_name line name (begun_in self.old.nodes block) (stack_in self.old) (token kind))
             (for_name line name (begun_in self.old.nodes block) (stack_in self.old) (token kind))
             result self.new }
+        ensures once { Spends (λ w. begun_weight w block) self.old result self.new }
     {
         match kind {
             TokenKind::Assign => {
@@ -361,6 +374,7 @@ impl Parser {
             (for_names line names (begun_in self.old.nodes block) (stack_in self.old) (token kind))
             (for_names line names (begun_in self.old.nodes block) (stack_in self.old) (token kind))
             result self.new }
+        ensures once { Spends (λ w. begun_weight w block) self.old result self.new }
     {
         match kind {
             TokenKind::Comma => {
@@ -380,6 +394,7 @@ impl Parser {
             (for_names line names (begun_in self.old.nodes block) (stack_in self.old) (token In))
             (for_names line names (begun_in self.old.nodes block) (stack_in self.old) (token In))
             result self.new }
+        ensures once { Spends (λ w. begun_weight w block) self.old result self.new }
     {
         let exps = Ids::new(self.alloc());
         self.push(Frame::InHeader(OpenHeader::Iterator(GenericFor {
@@ -407,6 +422,7 @@ impl Parser {
             (target_next own (list_of (tree_in self.old.nodes) targets) (begun_in self.old.nodes block) (stack_in self.old) (token kind) (place true line slice.now))
             (target_next own (list_of (tree_in self.old.nodes) targets) (begun_in self.old.nodes block) (stack_in self.old) (token kind) (place false line slice.now))
             result self.new }
+        ensures once { Spends (λ w. list_weight w targets + begun_weight w block) self.old result self.new }
     {
         let statement = OpenStatement::Target {
             line: own,
@@ -432,6 +448,7 @@ impl Parser {
             (return_next own (begun_in self.old.nodes block) (stack_in self.old) (mark_of kind) (place true line slice.now))
             (return_next own (begun_in self.old.nodes block) (stack_in self.old) (mark_of kind) (place false line slice.now))
             result self.new }
+        ensures once { Spends (λ w. begun_weight w block) self.old result self.new }
     {
         let exps = Ids::new(self.alloc());
         let Some(token) = kind else {

@@ -5,6 +5,7 @@ ghost use Rattle.lua_grammar.specs.Signs.{token, end};
 ghost use Rattle.lua_grammar.specs.Pushdown.{begun, next, step_from};
 ghost use Rattle.lua_parser.specs.Shown.{stack_in, state_in, place, StateBelow};
 ghost use Rattle.lua_parser.specs.Gave.{Gave, IsSmall, mark_of};
+ghost use Rattle.lua_parser.specs.Weights.{Spends, state_weight};
 
 use crate::frame::Begun;
 use crate::parser::Parser;
@@ -25,6 +26,7 @@ impl Parser {
         ensures gave { Gave
             (next (begun line) (stack_in self.old) (mark_of kind) (place true line slice.now))
             (next (begun line) (stack_in self.old) (mark_of kind) (place false line slice.now)) result self.new }
+        ensures once { Spends (λ _. 0) self.old result self.new }
     {
         let stats = Ids::new(self.alloc());
         self.next(Begun { line, stats }, kind, line, slice)
@@ -44,6 +46,7 @@ impl Parser {
             (step_from (state_in self.old.nodes (stack_in self.old) state) (token kind) (place true line slice.now))
             (step_from (state_in self.old.nodes (stack_in self.old) state) (token kind) (place false line slice.now))
             result self.new }
+        ensures once { Spends (λ w. state_weight w state) self.old result self.new }
     {
         match state {
             State::Need { limit } => self.begin(limit, kind, line, slice),
@@ -93,6 +96,7 @@ impl Parser {
             (step_from (state_in self.old.nodes (stack_in self.old) state) end (place true 1 []))
             (step_from (state_in self.old.nodes (stack_in self.old) state) end (place false 1 []))
             result self.new }
+        ensures once { Spends (λ w. state_weight w state) self.old result self.new }
     {
         match state {
             State::Have { limit, node } => self.follow(limit, node, None, 1, &[]),

@@ -7,6 +7,7 @@ ghost use Rattle.lua_grammar.specs.Grammar.{is_prefix};
 ghost use Rattle.lua_parser.specs.Shown.{tree_in, stack_in, operator_in, place};
 ghost use Rattle.lua_parser.specs.Gave.{Gave, mark_of};
 ghost use Rattle.lua_parser.specs.Follows.{IsSuffix, chosen, extended};
+ghost use Rattle.lua_parser.specs.Weights.{Spends};
 
 use crate::frame::{Callee, Frame, Operation};
 use crate::operators::{left_level, level, operation, right_level};
@@ -90,6 +91,7 @@ impl Parser {
             (extended limit (tree_in self.old.nodes had) (stack_in self.old) (mark_of kind) (place true line slice.now) suffix)
             (extended limit (tree_in self.old.nodes had) (stack_in self.old) (mark_of kind) (place false line slice.now) suffix)
             result self.new }
+        ensures once { Spends (λ w. w had) self.old result self.new }
     {
         match suffix {
             Suffix::Field => {
