@@ -1,12 +1,13 @@
 -- The weight of what was begun, one part or frame more.
-use Rattle.std.specs.Prelude.{◌≡◌, ℕ, zero, suc, ◌+◌, List, [], ◌∷◌, ◌++◌, length, refl}
+use Rattle.std.specs.Prelude.{◌≡◌, ℕ, zero, suc, ◌+◌, List, [], ◌∷◌, ◌++◌, length, Result, Ok, Err, refl}
 use Rattle.std.proofs.Common.{ap, sym, ◌∙◌, arith, length-append}
 use Rattle.lua_ast.specs.declared.node.LinedNode.{LinedNode}
 use Rattle.lua_parser.specs.declared.frame.Frame.{Frame}
 use Rattle.lua_parser.specs.Shown.{Held}
 use Rattle.lua_ast.specs.Weights.{list_weight, cases_weight, fields_weight, field_weight, parts_weight, nodes_weight, total}
 use Rattle.lua_ast.specs.declared.node.Field.{Field}
-use Rattle.lua_parser.specs.Weights.{frame_weight, frames_weight, spent, made}
+use Rattle.lua_parser.specs.declared.state.State.{State}
+use Rattle.lua_parser.specs.Weights.{frame_weight, frames_weight, spent, made, Spends}
 
 pub list_push : (w : ℕ → ℕ) (is : List ℕ) (i : ℕ) → list_weight w (is ++ i ∷ []) ≡ list_weight w is + w i
 list_push w [] i = omega arith
@@ -44,3 +45,7 @@ added ns ms n fs i e at w =
 pub spent_push : (w : ℕ → ℕ) (ns : List LinedNode) (f : Frame) (fs : List Frame) → spent w (record { nodes = ns; frames = f ∷ fs }) ≡ frame_weight w f + spent w (record { nodes = ns; frames = fs })
 unfolding spent
 spent_push w ns f fs = omega arith
+
+pub spends_as : {E : Type 0} (f g : (ℕ → ℕ) → ℕ) (before : Held) (r : Result State E) (after : Held) → ((w : ℕ → ℕ) → f w ≡ g w) → Spends g before r after → Spends f before r after
+spends_as f g before (Ok s) after same h = λ w. omega (arith, same w, h w)
+spends_as f g before (Err e) after same h = tt

@@ -119,8 +119,8 @@ impl Parser {
             (λ frame. stack_in self.old ≡ frame_in self.old.nodes frame ∷ stack_in self.new) }
         ensures below { IfSome result (λ frame. FrameBelow (length self.old.nodes) frame) }
         ensures fewer { OnSome result (length self.new.frames < length self.old.frames) }
-        ensures once { IfSome result (λ frame.
-            Balances (λ _. 0) self.old (λ w. frame_weight w frame) self.new) }
+        ensures once { MatchOption result (Balances (λ _. 0) self.old (λ _. 0) self.new)
+            (λ frame. Balances (λ _. 0) self.old (λ w. frame_weight w frame) self.new) }
     {
         self.stack.pop()
     }

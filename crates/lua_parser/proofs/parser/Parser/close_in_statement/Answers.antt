@@ -9,8 +9,8 @@ use Rattle.lua_parser.proofs.Steps.{gave_as}
 use Rattle.lua_parser.proofs.Others.{close_return_at}
 use Rattle.lua_parser.proofs.parser.Parser.close_in_statement.Goals as goal
 
-pub returns-in-Return : goal.returns-in-Return
-returns-in-Return c =
+pub returns-in-Return-clause-gave : goal.returns-in-Return-clause-gave
+returns-in-Return-clause-gave c =
     let ns = c.args.self.now.nodes in
     let t = tree_in ns c.args.had in
     let k = stack_in c.args.self.now in
@@ -22,8 +22,6 @@ returns-in-Return c =
     let g = pushdown.InReturn l es b in
     let same : f ≡ g = ap (λ (x : OpenStatement). statement_in ns x) c.in-Return.is in
     let at = λ (w : Bool). ap (λ (x : pushdown.Frame). pushdown.close x t k m (place w c.args.line c.args.slice.now)) same ∙ close_return_at w l es b t k m c.args.line 0 c.args.slice.now [] in
-    record {
-      gave = gave_as (pushdown.close f t k m (place true c.args.line c.args.slice.now)) (pushdown.close g t k m (place true 0 []))
-          (pushdown.close f t k m (place false c.args.line c.args.slice.now)) (pushdown.close g t k m (place false 0 [])) c.close_return.result c.close_return.new.self
-          (at true) (at false) c.close_return.ensures;
-    }
+    gave_as (pushdown.close f t k m (place true c.args.line c.args.slice.now)) (pushdown.close g t k m (place true 0 []))
+        (pushdown.close f t k m (place false c.args.line c.args.slice.now)) (pushdown.close g t k m (place false 0 [])) c.close_return.result c.close_return.new.self
+        (at true) (at false) c.close_return.ensures.gave

@@ -13,8 +13,8 @@ use Rattle.lua_grammar.specs.Signs.{Mark, Place}
 use Rattle.lua_parser.proofs.Others.{close_local_other}
 use Rattle.lua_parser.proofs.parser.Parser.close_local.Goals as goal
 
-pub returns-in_default-token : goal.returns-in_default-token
-returns-in_default-token c =
+pub returns-in_default-token-clause-gave : goal.returns-in_default-token-clause-gave
+returns-in_default-token-clause-gave c =
     let b = (begun_in c.args.self.now.nodes c.args.block) in
     let k = (stack_in c.args.self.now) in
     let l = c.args.own in

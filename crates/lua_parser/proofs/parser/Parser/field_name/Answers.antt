@@ -9,8 +9,8 @@ use Rattle.lua_parser.proofs.Steps.{gave_as}
 use Rattle.lua_parser.proofs.Others.{field_name_other}
 use Rattle.lua_parser.proofs.parser.Parser.field_name.Goals as goal
 
-pub returns-in_ok-had-in_default : goal.returns-in_ok-had-in_default
-returns-in_ok-had-in_default c =
+pub returns-in_ok-had-in_default-clause-gave : goal.returns-in_ok-had-in_default-clause-gave
+returns-in_ok-had-in_default-clause-gave c =
     let ns = c.args.self.now.nodes in
     let u = purpose_in ns c.args.table.purpose in
     let fs = fields_of (tree_in ns) c.args.table.fields in
@@ -25,8 +25,6 @@ returns-in_ok-had-in_default c =
     let at = λ (w : Bool). field_name_other u c.args.table.line fs c.args.own c.args.name k c.args.kind (place w c.args.line c.args.slice.now) c.in_default.not-Assign
     ∙ ap (λ (x : List pushdown.Frame). pushdown.follow x 0 n m (place w c.args.line c.args.slice.now)) stack
     ∙ ap (λ (x : tree.Tree). pushdown.follow z 0 x m (place w c.args.line c.args.slice.now)) name in
-    record {
-      gave = gave_as (pushdown.field_name u c.args.table.line fs c.args.own c.args.name k m (place true c.args.line c.args.slice.now)) (pushdown.follow z 0 t m (place true c.args.line c.args.slice.now))
-          (pushdown.field_name u c.args.table.line fs c.args.own c.args.name k m (place false c.args.line c.args.slice.now)) (pushdown.follow z 0 t m (place false c.args.line c.args.slice.now)) c.follow.result c.follow.new.self
-          (at true) (at false) c.follow.ensures.gave;
-    }
+    gave_as (pushdown.field_name u c.args.table.line fs c.args.own c.args.name k m (place true c.args.line c.args.slice.now)) (pushdown.follow z 0 t m (place true c.args.line c.args.slice.now))
+        (pushdown.field_name u c.args.table.line fs c.args.own c.args.name k m (place false c.args.line c.args.slice.now)) (pushdown.follow z 0 t m (place false c.args.line c.args.slice.now)) c.follow.result c.follow.new.self
+        (at true) (at false) c.follow.ensures.gave

@@ -1,6 +1,7 @@
 use Rattle.std.specs.Prelude.{◌≡◌, ◌<◌, true, false, length}
 use Rattle.lua_grammar.specs.Pushdown.{follow}
 use Rattle.lua_parser.specs.Shown.{tree_in, stack_in, place}
+use Rattle.lua_parser.specs.Weights.{Balances}
 use Rattle.lua_parser.specs.Gave.{mark_of}
 use Rattle.lua_parser.proofs.parser.Parser.follow.Given as goal
 
@@ -12,6 +13,7 @@ invariant-operands l = record {
   free : follow (stack_in l.fn.self) l.limit (tree_in l.fn.self.nodes l.fn.had) (mark_of l.kind) (place false l.line l.slice)
       ≡ follow (stack_in l.self) l.operand.limit (tree_in l.self.nodes l.operand.node) (mark_of l.kind) (place false l.line l.slice);
   within : l.operand.node < length l.self.nodes;
+  once : Balances (λ w. w l.fn.had) l.fn.self (λ w. w l.operand.node) l.self;
 }
 
 abbrev pub decreases-operands : goal.decreases-operands

@@ -13,8 +13,8 @@ use Rattle.lua_parser.proofs.Lists.{list_of_none}
 use Rattle.lua_parser.proofs.Others.{local_names_other}
 use Rattle.lua_parser.proofs.parser.Parser.local_names.Goals as goal
 
-pub returns-in_default-token : goal.returns-in_default-token
-returns-in_default-token c =
+pub returns-in_default-token-clause-gave : goal.returns-in_default-token-clause-gave
+returns-in_default-token-clause-gave c =
     let b = (begun_in c.args.self.now.nodes c.args.block) in
     let k = (stack_in c.args.self.now) in
     let l = c.args.own in
@@ -27,8 +27,6 @@ returns-in_default-token c =
     ∙ ap (λ (us : Trees). pushdown.next (pushdown.add b (tree.Local 0 l ns us)) k (token x) i) (sym none) in
     let i = place true c.args.line c.args.slice.now in
     let j = place false c.args.line c.args.slice.now in
-    record {
-      gave = gave_as (pushdown.local_names l ns b k (mark_of c.args.kind) i) (pushdown.next (pushdown.add b (tree.Local 0 l ns ts)) k (token x) i)
-          (pushdown.local_names l ns b k (mark_of c.args.kind) j) (pushdown.next (pushdown.add b (tree.Local 0 l ns ts)) k (token x) j)
-          c.next_after-in_default-token.result c.next_after-in_default-token.new.self (same i) (same j) c.next_after-in_default-token.ensures.gave;
-    }
+    gave_as (pushdown.local_names l ns b k (mark_of c.args.kind) i) (pushdown.next (pushdown.add b (tree.Local 0 l ns ts)) k (token x) i)
+        (pushdown.local_names l ns b k (mark_of c.args.kind) j) (pushdown.next (pushdown.add b (tree.Local 0 l ns ts)) k (token x) j)
+        c.next_after-in_default-token.result c.next_after-in_default-token.new.self (same i) (same j) c.next_after-in_default-token.ensures.gave

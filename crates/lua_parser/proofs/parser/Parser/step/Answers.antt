@@ -8,16 +8,14 @@ use Rattle.lua_parser.proofs.Steps.{gave_as}
 use Rattle.lua_parser.proofs.Others.{end_at}
 use Rattle.lua_parser.proofs.parser.Parser.step.Goals as goal
 
-pub returns-in-BlockEnd : goal.returns-in-BlockEnd
-returns-in-BlockEnd c =
+pub returns-in-BlockEnd-clause-gave : goal.returns-in-BlockEnd-clause-gave
+returns-in-BlockEnd-clause-gave c =
     let ns = c.args.self.now.nodes in
     let k = stack_in c.args.self.now in
     let m = token c.args.kind in
     let t = pushdown.block_of (begun_in ns c.in-BlockEnd.block) in
     let s = state_in ns k c.args.state in
     let at = λ (w : Bool). ap (λ (x : State). pushdown.step_from (state_in ns k x) m (place w c.args.line c.args.slice.now)) c.in-BlockEnd.is ∙ end_at w k t m c.args.line 0 c.args.slice.now [] in
-    record {
-      gave = gave_as (pushdown.step_from s m (place true c.args.line c.args.slice.now)) (pushdown.end_block k t m (place true 0 []))
-          (pushdown.step_from s m (place false c.args.line c.args.slice.now)) (pushdown.end_block k t m (place false 0 [])) c.end_block.result c.end_block.new.self
-          (at true) (at false) c.end_block.ensures.gave;
-    }
+    gave_as (pushdown.step_from s m (place true c.args.line c.args.slice.now)) (pushdown.end_block k t m (place true 0 []))
+        (pushdown.step_from s m (place false c.args.line c.args.slice.now)) (pushdown.end_block k t m (place false 0 [])) c.end_block.result c.end_block.new.self
+        (at true) (at false) c.end_block.ensures.gave
