@@ -3,4 +3,5 @@ pub mod Decoding
 pub mod Growing
 pub mod LabelsOnly
 pub mod PlacesBelow
+pub mod EachOnce
 mod Examples
