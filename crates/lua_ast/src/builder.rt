@@ -1,7 +1,9 @@
 //! A chunk that is being built.
 
-ghost use Rattle.std.specs.Prelude.{◌≡◌, ◌<◌, ◌^◌, ◌∷◌, ◌++◌, [], ℕ, length, Some, IfOk, OnErr};
+ghost use Rattle.std.specs.Prelude.{◌≡◌, ◌<◌, ◌+◌, ◌^◌, ◌∷◌, ◌++◌, [], ℕ, length, Some, IfOk, OnErr};
 ghost use Rattle.lua_ast.specs.Tree.{line_of};
+ghost use Rattle.lua_ast.specs.Weights.{nodes_weight, total};
+ghost use Rattle.lua_ast.specs.Once.{IsEachOnce};
 ghost use Rattle.lua_ast.specs.Decode.{PartsBelow, node_at, line_at, node_tree, tree};
 
 use crate::chunk::Chunk;
@@ -92,11 +94,16 @@ impl ChunkBuilder {
         lined_node(self.nodes.as_slice(), id).line
     }
 
-    /// The chunk of these nodes, with this one as the node of the whole text.
+    /// The chunk of these nodes, with this one as the node of the whole text. Where the node of the
+    /// text and the parts of all nodes are the nodes once each, by any weight, each stands once in
+    /// the tree.
+    #[tactic(auto, using(crate::proofs::EachOnce::each_once))]
     pub fn finish(self, root: NodeId) -> Chunk
         requires { root < length self }
         ensures nodes { result.nodes ≡ self }
         ensures root { result.root ≡ root }
+        ensures once { ((w : ℕ → ℕ) → w root + nodes_weight w self ≡ total w (length self)) →
+            IsEachOnce result }
     {
         let ChunkBuilder { nodes } = self;
         Chunk::new(nodes, root)

@@ -141,10 +141,20 @@ made w h = total w (length h.nodes)
 abbrev pub Balances : (given : (ℕ → ℕ) → ℕ) → Held → (left : (ℕ → ℕ) → ℕ) → Held → Type 0
 Balances given before left after = (w : ℕ → ℕ) → left w + spent w after + made w before ≡ given w + spent w before + made w after
 
+-- All that is a part of a node, stands in a frame or is in a state. Where the text is over, no frame is left.
+abbrev pub held : (ℕ → ℕ) → State → Held → ℕ
+held w (state.Done t) h = w t + nodes_weight w h.nodes
+held w s h = state_weight w s + spent w h
+
 -- the same where a state is left
 abbrev pub Spends : {E : Type 0} → (given : (ℕ → ℕ) → ℕ) → Held → Result State E → Held → Type 0
-Spends given before (Ok s) after = Balances given before (λ w. state_weight w s) after
+Spends given before (Ok s) after = (w : ℕ → ℕ) → held w s after + made w before ≡ given w + spent w before + made w after
 Spends given before (Err e) after = Unit {0}
+
+-- the same of a whole step from state to state
+abbrev pub Steps : {E : Type 0} → State → Held → Result State E → Held → Type 0
+Steps s before (Ok t) after = (w : ℕ → ℕ) → held w t after + made w before ≡ held w s before + made w after
+Steps s before (Err e) after = Unit {0}
 
 -- the same where the expression that was given is over; inside something else it stays given
 abbrev pub FoldsOnce : (had : ℕ) → Held → Folded → Held → Type 0
@@ -153,6 +163,6 @@ FoldsOnce had before (folded.Inside f) after = Balances (λ _. 0) before (λ w. 
 FoldsOnce had before folded.Nothing after = Unit {0}
 
 abbrev pub FollowsOnce : {E : Type 0} → (had : ℕ) → Held → Result Followed E → Held → Type 0
-FollowsOnce had before (Ok (followed.Goes s)) after = Balances (λ w. w had) before (λ w. state_weight w s) after
+FollowsOnce had before (Ok (followed.Goes s)) after = (w : ℕ → ℕ) → held w s after + made w before ≡ w had + spent w before + made w after
 FollowsOnce had before (Ok (followed.Over o)) after = Balances (λ w. w had) before (λ w. w o.node) after
 FollowsOnce had before (Err e) after = Unit {0}

@@ -1,14 +1,15 @@
 //! The nodes and frames of a text that is being read.
 
-ghost use Rattle.std.specs.Prelude.{◌≡◌, ◌<◌, ◌≤◌, ◌∷◌, [], ℕ, length, IfOk, OnOk, IfSome, OnSome, MatchOption};
+ghost use Rattle.std.specs.Prelude.{◌≡◌, ◌<◌, ◌≤◌, ◌+◌, ◌∷◌, [], ℕ, length, IfOk, OnOk, IfSome, IfNone, OnSome, MatchOption};
 ghost use Rattle.lua_ast.specs.Tree.{line_of};
 ghost use Rattle.lua_ast.specs.Decode.{PartsBelow, node_tree};
 ghost use Rattle.lua_grammar.specs.Grammar.{is_var, is_call, is_prefix};
 ghost use Rattle.lua_grammar.specs.Pushdown.{level_of, depth};
 ghost use Rattle.lua_parser.specs.declared.frame.Begun.{Begun as begun};
 ghost use Rattle.lua_parser.specs.declared.frame.Callee.{Callee as callee};
-ghost use Rattle.lua_ast.specs.Weights.{parts_weight};
-ghost use Rattle.lua_parser.specs.Weights.{frame_weight, Balances};
+ghost use Rattle.lua_ast.specs.Once.{IsEachOnce};
+ghost use Rattle.lua_ast.specs.Weights.{parts_weight, nodes_weight};
+ghost use Rattle.lua_parser.specs.Weights.{frame_weight, spent, made, Balances};
 ghost use Rattle.lua_parser.specs.Shown.{tree_in, stack_in, begun_in, callee_in, frame_in, BegunBelow, CalleeBelow, FrameBelow};
 
 use crate::frame::Frame;
@@ -39,10 +40,11 @@ impl Model for Parser {
 
 impl Parser {
     /// Nothing was read yet.
-    #[tactic(auto, unfolding(crate::specs::Shown::stack_in))]
+    #[tactic(auto, unfolding(crate::specs::Shown::stack_in, crate::specs::Weights::spent, crate::specs::Weights::made))]
     pub fn new(alloc: Global) -> Parser
         ensures nodes { result.nodes ≡ [] }
         ensures stack { stack_in result ≡ [] }
+        ensures once { (w : ℕ → ℕ) → spent w result ≡ made w result }
     {
         Parser {
             alloc,
@@ -52,10 +54,13 @@ impl Parser {
     }
 
     /// The chunk of these nodes, with this one as the node of the whole text.
+    #[tactic(auto, unfolding(crate::specs::Weights::made))]
     pub fn chunk(self, root: NodeId) -> Chunk
-        requires { root < length self.nodes }
+        requires within { root < length self.nodes }
+        requires balance { (w : ℕ → ℕ) → w root + nodes_weight w self.nodes ≡ made w self }
         ensures nodes { result.nodes ≡ self.nodes }
         ensures root { result.root ≡ root }
+        ensures once { IsEachOnce result }
     {
         let Parser {
             alloc: _,
@@ -115,6 +120,7 @@ impl Parser {
     #[tactic(auto, unfolding(crate::specs::Shown::stack_in, crate::specs::Weights::spent, crate::specs::Weights::made))]
     pub fn pop(&mut self) -> Option<Frame>
         ensures nodes { self.new.nodes ≡ self.old.nodes }
+        ensures empty { IfNone result (self.new.frames ≡ []) }
         ensures stack { MatchOption result (stack_in self.old ≡ [])
             (λ frame. stack_in self.old ≡ frame_in self.old.nodes frame ∷ stack_in self.new) }
         ensures below { IfSome result (λ frame. FrameBelow (length self.old.nodes) frame) }

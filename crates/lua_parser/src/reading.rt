@@ -1,6 +1,6 @@
 //! The parsing of a whole text.
 
-ghost use Rattle.std.specs.Prelude.{◌≡◌, ◌≤◌, List, [], true, length, IfOk, IfErr, Err};
+ghost use Rattle.std.specs.Prelude.{◌≡◌, ◌≤◌, ℕ, List, [], true, length, IfOk, IfErr, Err};
 ghost use Rattle.lua_lexer.specs.Lexes.{Lexes};
 ghost use Rattle.lua_lexer.specs.declared.token.Token.{Token as token_at};
 ghost use Rattle.lua_ast.specs.Tree.{Tree};
@@ -9,6 +9,8 @@ ghost use Rattle.lua_grammar.specs.Parses.{Parses};
 ghost use Rattle.lua_grammar.specs.Pushdown.{step_from};
 ghost use Rattle.lua_grammar.specs.Deciding.{reading, reading_at_end};
 ghost use Rattle.lua_parser.specs.Parsing.{tree_of, HasTree, IsRefusal, Tells, AreFit, refusal_at};
+ghost use Rattle.lua_ast.specs.Once.{IsEachOnce};
+ghost use Rattle.lua_parser.specs.Weights.{spent, made, held};
 ghost use Rattle.lua_parser.specs.Shown.{stack_in, state_in, place, StateBelow};
 
 use crate::parse_error::ParseError;
@@ -26,6 +28,7 @@ pub fn parse(alloc: Global, text: &[u8], tokens: &[Token]) -> Result<Chunk, Pars
     ensures tree { IfOk result (λ chunk. Parses text.now tokens.now (tree_of chunk)) }
     ensures whole { (t : Tree) → Parses text.now tokens.now t → HasTree t result }
     ensures fails { IfErr result (λ error. IsRefusal text.now tokens.now error) }
+    ensures once { IfOk result (λ chunk. IsEachOnce chunk) }
 {
     lua_lexer::laws::tokens_of_text();
     lua_lexer::laws::values_of_tokens();
@@ -35,6 +38,7 @@ pub fn parse(alloc: Global, text: &[u8], tokens: &[Token]) -> Result<Chunk, Pars
 fn parse_tokens(alloc: Global, text: &[u8], tokens: &[Token]) -> Result<Chunk, ParseError>
     requires { AreFit text.now tokens.now }
     ensures told { Tells tokens.now (reading text.now tokens.now) result }
+    ensures once { IfOk result (λ chunk. IsEachOnce chunk) }
 {
     let mut parser = Parser::new(alloc);
     match read(&mut parser, text, tokens) {
@@ -47,10 +51,12 @@ fn parse_tokens(alloc: Global, text: &[u8], tokens: &[Token]) -> Result<Chunk, P
 fn read(parser: &mut Parser, text: &[u8], tokens: &[Token]) -> Result<State, ParseError>
     requires fit { AreFit text.now tokens.now }
     requires nothing { stack_in parser.old ≡ [] }
+    requires balance { (w : ℕ → ℕ) → spent w parser.old ≡ made w parser.old }
     ensures state { IfOk result (λ state. reading text.now tokens.now
         ≡ reading_at_end (step_from (state_in parser.new.nodes (stack_in parser.new) state) end (place true 1 []))) }
     ensures below { IfOk result (λ state. StateBelow (length parser.new.nodes) state) }
     ensures refused { IfErr result (λ error. Tells tokens.now (reading text.now tokens.now) (Err error)) }
+    ensures once { IfOk result (λ state. (w : ℕ → ℕ) → held w state parser.new ≡ made w parser.new) }
 {
     let mut state = State::BlockNext;
     for token in tokens {
@@ -75,9 +81,11 @@ fn refusal_at(refusal: Refusal, start: u32) -> ParseError
 
 /// The text ends.
 fn finish(mut parser: Parser, state: State) -> Result<Chunk, ParseError>
-    requires { StateBelow (length parser.nodes) state }
+    requires below { StateBelow (length parser.nodes) state }
+    requires balance { (w : ℕ → ℕ) → held w state parser ≡ made w parser }
     ensures told { (ts : List token_at) → Tells ts
         (reading_at_end (step_from (state_in parser.nodes (stack_in parser) state) end (place true 1 []))) result }
+    ensures once { IfOk result (λ chunk. IsEachOnce chunk) }
 {
     let last = match parser.end(state) {
         Ok(last) => last,
