@@ -6,6 +6,7 @@ mod Scanning
 mod Blocks
 mod Stepping
 pub mod Reversed
+pub mod MetOnce
 pub mod NameTables
 pub mod Naming
 pub mod Targets

@@ -8,6 +8,7 @@ pub mod FirstLabels
 pub mod Visible
 pub mod Scope
 pub mod Variables
+pub mod Once
 pub mod Refusals
 pub mod Resolved
 pub mod OfChunk

@@ -1,0 +1,88 @@
+-- What a text has at one place means there what it means.
+use Rattle.std.specs.Prelude.{◌≡◌, ℕ, ◌<◌, ◌==◌, ◌||◌, Bool, true, false, if◌then◌else◌, List, [], ◌∷◌, ◌++◌, length, Option, Some, None, refl}
+use Rattle.std.specs.List.{AllByRecursion, IsDistinct, list_any}
+use Rattle.std.proofs.Common.{get_or, ap, ◌∙◌, sym, subst, inl, inr}
+use Rattle.std.proofs.Math.ListN.{set}
+use Rattle.std.proofs.lemmas.List.{get_or-set_same, get_or-set_other, length-set}
+use Rattle.std.proofs.lemmas.Bool.Decides.{eqb_tells}
+use Rattle.std.proofs.lemmas.Map.Keys.{IsDistinct-head, IsDistinct-tail, IsDistinct-cons}
+use Rattle.lua_scope.specs.declared.event.Event.{Event}
+use Rattle.lua_scope.specs.declared.event.Event.TheVariants as event
+use Rattle.lua_scope.specs.Scope.{declared, first_variable}
+use Rattle.lua_scope.specs.Variables.{meaning, variable_of}
+use Rattle.lua_scope.specs.Once.{node_of, nodes_of, IsOnce, Meets}
+
+same_node : (i : ℕ) → (i == i) ≡ true
+same_node i = elim (eqb_tells i i) [
+  | inl e ↦ e.0
+  | inr e ↦ absurd (e.1 refl)
+]
+
+-- a node that the rest of a text has is none of those that are told apart from it
+told_apart : (j i : ℕ) (e : Event) (after before : List Event) → node_of e ≡ Some i → AllByRecursion (λ k. (j == k) ≡ false) (nodes_of (after ++ e ∷ before)) → (j == i) ≡ false
+told_apart j i (event.Declare k _) [] before is h =
+    let same : k ≡ i = cc in subst (λ (m : ℕ). (j == m) ≡ false) same h.0
+told_apart j i (event.Use k _) [] before is h =
+    let same : k ≡ i = cc in subst (λ (m : ℕ). (j == m) ≡ false) same h.0
+told_apart j i (event.Open _) [] before is h = absurd cc
+told_apart j i event.Close [] before is h = absurd cc
+told_apart j i (event.Enter _ _) [] before is h = absurd cc
+told_apart j i (event.Goto _ _) [] before is h = absurd cc
+told_apart j i (event.SecondLabel _) [] before is h = absurd cc
+told_apart j i (event.Break _) [] before is h = absurd cc
+told_apart j i (event.Vararg _) [] before is h = absurd cc
+told_apart j i e (event.Declare k _ ∷ after) before is h = told_apart j i e after before is h.1
+told_apart j i e (event.Use k _ ∷ after) before is h = told_apart j i e after before is h.1
+told_apart j i e (event.Open _ ∷ after) before is h = told_apart j i e after before is h
+told_apart j i e (event.Close ∷ after) before is h = told_apart j i e after before is h
+told_apart j i e (event.Enter _ _ ∷ after) before is h = told_apart j i e after before is h
+told_apart j i e (event.Goto _ _ ∷ after) before is h = told_apart j i e after before is h
+told_apart j i e (event.SecondLabel _ ∷ after) before is h = told_apart j i e after before is h
+told_apart j i e (event.Break _ ∷ after) before is h = told_apart j i e after before is h
+told_apart j i e (event.Vararg _ ∷ after) before is h = told_apart j i e after before is h
+
+abbrev same_number : ℕ → ℕ → Bool
+same_number i j = i == j
+
+rest_once : (j : ℕ) (h : List Event) → IsDistinct same_number (j ∷ nodes_of h) → IsOnce h
+rest_once j h d = IsDistinct-tail same_number j (nodes_of h) d
+
+-- a Name means what its name means where it stands
+variable_there : (i : ℕ) (x : List ℕ) (after before : List Event) → IsOnce (after ++ event.Use i x ∷ before) → variable_of (after ++ event.Use i x ∷ before) i ≡ meaning before x
+unfolding variable_of
+variable_there i x [] before h = ap (λ (b : Bool). (if b then meaning before x else variable_of before i)) (same_node i)
+variable_there i x (event.Use j y ∷ after) before h =
+    ap (λ (b : Bool). (if b then meaning (after ++ event.Use i x ∷ before) y else variable_of (after ++ event.Use i x ∷ before) i)) (told_apart j i (event.Use i x) after before refl (IsDistinct-head same_number j (nodes_of (after ++ event.Use i x ∷ before)) h))
+    ∙ variable_there i x after before (rest_once j (after ++ event.Use i x ∷ before) h)
+variable_there i x (event.Declare j n ∷ after) before h = variable_there i x after before (rest_once j (after ++ event.Use i x ∷ before) h)
+variable_there i x (event.Open _ ∷ after) before h = variable_there i x after before h
+variable_there i x (event.Close ∷ after) before h = variable_there i x after before h
+variable_there i x (event.Enter _ _ ∷ after) before h = variable_there i x after before h
+variable_there i x (event.Goto _ _ ∷ after) before h = variable_there i x after before h
+variable_there i x (event.SecondLabel _ ∷ after) before h = variable_there i x after before h
+variable_there i x (event.Break _ ∷ after) before h = variable_there i x after before h
+variable_there i x (event.Vararg _ ∷ after) before h = variable_there i x after before h
+
+pub name_there : (i : ℕ) (x : List ℕ) (text before : List Event) → IsOnce text → Meets text before (event.Use i x) → variable_of text i ≡ meaning before x
+name_there i x text before once m =
+    ap (λ (h : List Event). variable_of h i) (sym m.joined) ∙ variable_there i x m.after before (subst IsOnce (sym m.joined) once)
+
+-- variables are numbered in the order in which nodes name them
+first_there : (i n : ℕ) (after before : List Event) → IsOnce (after ++ event.Declare i n ∷ before) → first_variable (after ++ event.Declare i n ∷ before) i ≡ declared before
+unfolding first_variable
+first_there i n [] before h = ap (λ (b : Bool). (if b then declared before else first_variable before i)) (same_node i)
+first_there i n (event.Declare j m ∷ after) before h =
+    ap (λ (b : Bool). (if b then declared (after ++ event.Declare i n ∷ before) else first_variable (after ++ event.Declare i n ∷ before) i)) (told_apart j i (event.Declare i n) after before refl (IsDistinct-head same_number j (nodes_of (after ++ event.Declare i n ∷ before)) h))
+    ∙ first_there i n after before (rest_once j (after ++ event.Declare i n ∷ before) h)
+first_there i n (event.Use j y ∷ after) before h = first_there i n after before (rest_once j (after ++ event.Declare i n ∷ before) h)
+first_there i n (event.Open _ ∷ after) before h = first_there i n after before h
+first_there i n (event.Close ∷ after) before h = first_there i n after before h
+first_there i n (event.Enter _ _ ∷ after) before h = first_there i n after before h
+first_there i n (event.Goto _ _ ∷ after) before h = first_there i n after before h
+first_there i n (event.SecondLabel _ ∷ after) before h = first_there i n after before h
+first_there i n (event.Break _ ∷ after) before h = first_there i n after before h
+first_there i n (event.Vararg _ ∷ after) before h = first_there i n after before h
+
+pub declared_there : (i n : ℕ) (text before : List Event) → IsOnce text → Meets text before (event.Declare i n) → first_variable text i ≡ declared before
+declared_there i n text before once m =
+    ap (λ (h : List Event). first_variable h i) (sym m.joined) ∙ first_there i n m.after before (subst IsOnce (sym m.joined) once)

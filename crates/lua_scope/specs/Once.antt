@@ -1,0 +1,23 @@
+-- Where a text has what a history tells of. Each node that names variables, and each Name, stands at one place.
+use Rattle.std.specs.Prelude.{◌≡◌, ℕ, ◌==◌, List, ◌∷◌, ◌++◌, Option, Some, None}
+use Rattle.std.specs.List.{IsDistinct, filter_map}
+use Rattle.lua_scope.specs.declared.event.Event.{Event}
+use Rattle.lua_scope.specs.declared.event.Event.TheVariants as event
+
+-- the node that names variables, or is a Name
+abbrev pub node_of : Event → Option ℕ
+node_of (event.Declare i _) = Some i
+node_of (event.Use i _) = Some i
+node_of _ = None
+
+abbrev pub nodes_of : List Event → List ℕ
+nodes_of h = filter_map node_of h
+
+-- no node is met twice
+abbrev pub IsOnce : List Event → Type 0
+IsOnce h = IsDistinct (λ i j. i == j) (nodes_of h)
+
+-- the walk through a text meets the event behind what is before it
+pub record Meets (text before : List Event) (e : Event) : Type 0 where
+  pub after : List Event
+  pub joined : after ++ e ∷ before ≡ text
