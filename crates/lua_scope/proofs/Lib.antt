@@ -7,6 +7,7 @@ mod Blocks
 mod Stepping
 pub mod Reversed
 pub mod MetOnce
+pub mod ToldOnce
 pub mod NameTables
 pub mod Naming
 pub mod Targets
