@@ -7,7 +7,11 @@ use Rattle.std.proofs.lemmas.Map.Keys.{IsDistinct-head, IsDistinct-tail}
 use Rattle.lua_scope.specs.declared.event.Event.{Event}
 use Rattle.lua_scope.specs.declared.event.Event.TheVariants as event
 use Rattle.lua_scope.specs.Scope.{declared, first_variable}
-use Rattle.lua_scope.specs.Variables.{meaning, variable_of}
+use Rattle.lua_scope.specs.Variables.{meaning, variable_of, place_of, place_by}
+use Rattle.lua_ast.specs.Decode.{ChunkNodes}
+use Rattle.lua_ast.specs.Once.{IsEachOnce}
+use Rattle.lua_scope.specs.OfChunk.{history_of}
+use Rattle.lua_scope.proofs.ToldOnce.{told_once}
 use Rattle.lua_scope.specs.Once.{node_of, nodes_of, IsOnce, Meets}
 
 same_node : (i : ℕ) → (i == i) ≡ true
@@ -84,3 +88,10 @@ first_there i n (event.Vararg _ ∷ after) before h = first_there i n after befo
 pub declared_there : (i n : ℕ) (text before : List Event) → IsOnce text → Meets text before (event.Declare i n) → first_variable text i ≡ declared before
 declared_there i n text before once m =
     ap (λ (h : List Event). first_variable h i) (sym m.joined) ∙ first_there i n m.after before (subst IsOnce (sym m.joined) once)
+
+-- of a chunk in whose tree each node stands once
+pub place_there : (c : ChunkNodes) (i : ℕ) → IsEachOnce c → (x : List ℕ) (before : List Event) → Meets (history_of c) before (event.Use i x) → place_of (history_of c) i ≡ place_by (history_of c) (meaning before x)
+place_there c i each x before m = ap (place_by (history_of c)) (name_there i x (history_of c) before (told_once c each) m)
+
+pub first_variable_there : (c : ChunkNodes) (i : ℕ) → IsEachOnce c → (n : ℕ) (before : List Event) → Meets (history_of c) before (event.Declare i n) → first_variable (history_of c) i ≡ declared before
+first_variable_there c i each n before m = declared_there i n (history_of c) before (told_once c each) m

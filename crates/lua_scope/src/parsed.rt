@@ -1,12 +1,16 @@
 //! Texts that load.
 
-ghost use Rattle.std.specs.Prelude.{◌≡◌, ◌<◌, ◌≤◌, length, IfOk, IfErr};
+ghost use Rattle.std.specs.Prelude.{◌≡◌, ◌<◌, ◌≤◌, ℕ, List, length, IfOk, IfErr};
 ghost use Rattle.lua_lexer.specs.Lexes.{Lexes};
+ghost use Rattle.lua_ast.specs.Once.{IsEachOnce};
 ghost use Rattle.lua_parser.specs.Parsing.{tree_of};
 ghost use Rattle.lua_scope.specs.Loads.{most_text, HasTokensOf, Loads, LoadsAs, IsLoadFailure};
 ghost use Rattle.lua_scope.specs.OfChunk.{history_of};
+ghost use Rattle.lua_scope.specs.declared.event.Event.{Event as EventOf};
+ghost use Rattle.lua_scope.specs.declared.event.Event.TheVariants as event;
 ghost use Rattle.lua_scope.specs.Scope.{declared, first_variable};
-ghost use Rattle.lua_scope.specs.Variables.{place_of, is_captured as is_captured_in, captured_by};
+ghost use Rattle.lua_scope.specs.Variables.{meaning, place_by, place_of, is_captured as is_captured_in, captured_by};
+ghost use Rattle.lua_scope.specs.Once.{Meets};
 
 use crate::load_error::{LoadError, of_lex, of_parse, of_scope};
 use crate::place::Place;
@@ -30,12 +34,13 @@ pub struct Parsed {
 impl Model for Parsed {
     ghost use Rattle.lua_scope.specs.Loads.{Program, LoadsAs};
     ghost use Rattle.lua_parser.specs.Parsing.{tree_of};
+    ghost use Rattle.lua_ast.specs.Once.{IsEachOnce};
 
     ghost Value = { Program };
 
     ghost view = { λ p. record { text = p.text.items; chunk = p.scoped } };
 
-    ghost invariant = { λ p. LoadsAs p.text.items (tree_of p.scoped) };
+    ghost invariant = { λ p. LoadsAs p.text.items (tree_of p.scoped) × IsEachOnce p.scoped };
 }
 
 /// The tokens of a text.
@@ -54,6 +59,7 @@ fn tokens_of(alloc: Global, text: &[u8]) -> Result<Vec<Token>, LoadError>
 fn chunk_of(alloc: Global, text: &[u8]) -> Result<Chunk, LoadError>
     requires { length text.now ≤ most_text }
     ensures chunk { IfOk result (λ chunk. HasTokensOf text.now (tree_of chunk)) }
+    ensures once { IfOk result (λ chunk. IsEachOnce chunk) }
     ensures fails { IfErr result (λ error. IsLoadFailure text.now error) }
 {
     let tokens = tokens_of(alloc, text)?;
@@ -68,6 +74,7 @@ fn chunk_of(alloc: Global, text: &[u8]) -> Result<Chunk, LoadError>
 pub fn load(alloc: Global, text: Vec<u8>) -> Result<Parsed, LoadError>
     ensures text { IfOk result (λ parsed. parsed.text ≡ text.items) }
     ensures tree { IfOk result (λ parsed. LoadsAs text.items (tree_of parsed.chunk)) }
+    ensures once { IfOk result (λ parsed. IsEachOnce parsed.chunk) }
     ensures loads { IfOk result (λ _. Loads text.items) }
     ensures fails { IfErr result (λ error. IsLoadFailure text.items error) }
 {
@@ -91,10 +98,11 @@ impl Parsed {
         self.text.as_slice()
     }
 
-    /// The nodes of the text's tree.
+    /// The nodes of the text's tree, in which each of them stands once.
     pub fn chunk(&self) -> &Chunk
         ensures chunk { result.now ≡ self.now.chunk }
         ensures loads { LoadsAs self.now.text (tree_of self.now.chunk) }
+        ensures once { IsEachOnce self.now.chunk }
     {
         self.scoped.chunk()
     }
@@ -106,10 +114,15 @@ impl Parsed {
         self.scoped.variables()
     }
 
-    /// What a Name node stands for. For any other node the answer is `Global`.
+    /// What a Name node stands for: what its name means where the text has it. For any other node
+    /// the answer is `Global`.
+    #[tactic(auto, using(crate::proofs::MetOnce::place_there))]
     pub fn place(&self, id: NodeId) -> Place
         requires { id < length self.now.chunk.nodes }
-        ensures { result ≡ place_of (history_of self.now.chunk) id }
+        ensures place { result ≡ place_of (history_of self.now.chunk) id }
+        ensures there { (name : List ℕ) (before : List EventOf) →
+            Meets (history_of self.now.chunk) before (event.Use id name) →
+            result ≡ place_by (history_of self.now.chunk) (meaning before name) }
     {
         self.scoped.place(id)
     }
@@ -128,7 +141,10 @@ impl Parsed {
     /// nothing 0.
     pub fn first_variable(&self, id: NodeId) -> u32
         requires { id < length self.now.chunk.nodes }
-        ensures { result ≡ first_variable (history_of self.now.chunk) id }
+        ensures number { result ≡ first_variable (history_of self.now.chunk) id }
+        ensures there { (count : ℕ) (before : List EventOf) →
+            Meets (history_of self.now.chunk) before (event.Declare id count) →
+            result ≡ declared before }
     {
         self.scoped.first_variable(id)
     }

@@ -3,6 +3,7 @@ use Rattle.lua_scope.specs.declared.load_error.LoadError.{LoadError}
 use Rattle.lua_scope.specs.Refusals.{first_refusal}
 use Rattle.lua_scope.specs.OfChunk.{history_of}
 use Rattle.lua_ast.specs.Decode.{ChunkNodes}
+use Rattle.lua_ast.specs.Once.{IsEachOnce}
 use Rattle.lua_parser.specs.Parsing.{tree_of}
 use Rattle.lua_scope.specs.Loads.{most_text, HasTokensOf, LoadsAs, IsLoadFailure}
 use Rattle.lua_scope.specs.Resolved.{TellsRefusal}
@@ -19,7 +20,8 @@ pub invariant_of-result : goal.invariant_of-result
 invariant_of-result c =
     let le : length c.args.text.items ≤ most_text = subst (λ (n : ℕ). n ≤ 1048576) (ap length c.as_slice-bytes.ensures.value) c.if-bytes-gt-MOST_TEXT.false in
     let has : HasTokensOf c.args.text.items (tree_of c.in_ok-chunk.chunk) = subst (λ (bytes : List ℕ). HasTokensOf bytes (tree_of c.in_ok-chunk.chunk)) c.as_slice-bytes.ensures.value c.in_ok-chunk.ensures.chunk in
-    loaded c.args.text.items c.in_ok-chunk.chunk c.in-Ok.scoped le has c.in-Ok.ensures.chunk c.in-Ok.ensures.loads
+    (loaded c.args.text.items c.in_ok-chunk.chunk c.in-Ok.scoped le has c.in-Ok.ensures.chunk c.in-Ok.ensures.loads,
+    subst (λ (made : ChunkNodes). IsEachOnce made) (sym c.in-Ok.ensures.chunk) c.in_ok-chunk.ensures.once)
 
 pub returns-in-Ok-clause-tree : goal.returns-in-Ok-clause-tree
 returns-in-Ok-clause-tree c =
