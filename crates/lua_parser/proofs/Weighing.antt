@@ -1,13 +1,13 @@
 -- The weight of what was begun, one part or frame more.
 use Rattle.std.specs.Prelude.{◌≡◌, ℕ, zero, suc, ◌+◌, List, [], ◌∷◌, ◌++◌, length, Result, Ok, Err, refl}
-use Rattle.std.proofs.Common.{ap, sym, ◌∙◌, arith, length-append}
+use Rattle.std.proofs.Common.{ap, ◌∙◌, arith, length-append}
 use Rattle.lua_ast.specs.declared.node.LinedNode.{LinedNode}
 use Rattle.lua_parser.specs.declared.frame.Frame.{Frame}
 use Rattle.lua_parser.specs.Shown.{Held}
 use Rattle.lua_ast.specs.Weights.{list_weight, cases_weight, fields_weight, field_weight, parts_weight, nodes_weight, total}
 use Rattle.lua_ast.specs.declared.node.Field.{Field}
 use Rattle.lua_parser.specs.declared.state.State.{State}
-use Rattle.lua_parser.specs.Weights.{frame_weight, frames_weight, spent, made, Spends}
+use Rattle.lua_parser.specs.Weights.{frame_weight, spent, made, Spends}
 
 pub list_push : (w : ℕ → ℕ) (is : List ℕ) (i : ℕ) → list_weight w (is ++ i ∷ []) ≡ list_weight w is + w i
 list_push w [] i = omega arith

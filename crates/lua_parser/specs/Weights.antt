@@ -1,4 +1,4 @@
--- The weight of what the parser has in hand. `w` gives the weight of a node by its number, and a node counts as often as it is named.
+-- What the parser does with its nodes, by their weight: `w` gives the weight of a node by its number, and a node counts as often as it is named.
 use Rattle.std.specs.Prelude.{◌≡◌, ℕ, ◌+◌, List, [], ◌∷◌, length, Result, Ok, Err}
 use Rattle.lua_ast.specs.Weights.{list_weight, maybe_weight, fields_weight, cases_weight, nodes_weight, total}
 use Rattle.lua_parser.specs.declared.frame.Begun.{Begun}
@@ -26,6 +26,7 @@ use Rattle.lua_parser.specs.declared.state.Folded.TheVariants as folded
 use Rattle.lua_parser.specs.declared.state.Followed.{Followed}
 use Rattle.lua_parser.specs.declared.state.Followed.TheVariants as followed
 use Rattle.lua_parser.specs.Shown.{Held}
+
 abbrev pub begun_weight : (ℕ → ℕ) → Begun → ℕ
 begun_weight w b = list_weight w b.stats
 
@@ -129,32 +130,32 @@ state_weight w (state.ReturnNext l b) = begun_weight w b
 state_weight w (state.BlockEnd b) = begun_weight w b
 state_weight w (state.Done t) = w t
 
--- the weight of all that is a part of a node or stands in a frame
+-- the weight of what is spent: of the nodes that are parts of nodes or stand in frames
 unfoldable pub spent : (ℕ → ℕ) → Held → ℕ
 spent w h = frames_weight w h.frames + nodes_weight w h.nodes
 
--- the weight of all nodes
+-- the weight of all nodes, once each
 unfoldable pub made : (ℕ → ℕ) → Held → ℕ
 made w h = total w (length h.nodes)
 
--- Of nodes that were given some are left. Each of the others and of those that were made is a part of a node or stands in a frame, as often as it was given or made, which is once.
+-- Nodes were given and nodes are left. The others of those that were given or made are spent, each once.
 abbrev pub Balances : (given : (ℕ → ℕ) → ℕ) → Held → (left : (ℕ → ℕ) → ℕ) → Held → Type 0
 Balances given before left after = (w : ℕ → ℕ) → left w + spent w after + made w before ≡ given w + spent w before + made w after
 
--- All that is a part of a node, stands in a frame or is in a state. Where the text is over, no frame is left.
-abbrev pub held : (ℕ → ℕ) → State → Held → ℕ
-held w (state.Done t) h = w t + nodes_weight w h.nodes
-held w s h = state_weight w s + spent w h
+-- what is spent, and what a state has; where the text is over, no frame is left
+abbrev pub accounted : (ℕ → ℕ) → State → Held → ℕ
+accounted w (state.Done t) h = w t + nodes_weight w h.nodes
+accounted w s h = state_weight w s + spent w h
 
 -- the same where a state is left
 abbrev pub Spends : {E : Type 0} → (given : (ℕ → ℕ) → ℕ) → Held → Result State E → Held → Type 0
-Spends given before (Ok s) after = (w : ℕ → ℕ) → held w s after + made w before ≡ given w + spent w before + made w after
+Spends given before (Ok s) after = (w : ℕ → ℕ) → accounted w s after + made w before ≡ given w + spent w before + made w after
 Spends given before (Err e) after = Unit {0}
 
 -- the same of a whole step from state to state
-abbrev pub Steps : {E : Type 0} → State → Held → Result State E → Held → Type 0
-Steps s before (Ok t) after = (w : ℕ → ℕ) → held w t after + made w before ≡ held w s before + made w after
-Steps s before (Err e) after = Unit {0}
+abbrev pub Passes : {E : Type 0} → State → Held → Result State E → Held → Type 0
+Passes s before (Ok t) after = (w : ℕ → ℕ) → accounted w t after + made w before ≡ accounted w s before + made w after
+Passes s before (Err e) after = Unit {0}
 
 -- the same where the expression that was given is over; inside something else it stays given
 abbrev pub FoldsOnce : (had : ℕ) → Held → Folded → Held → Type 0
@@ -163,6 +164,6 @@ FoldsOnce had before (folded.Inside f) after = Balances (λ _. 0) before (λ w. 
 FoldsOnce had before folded.Nothing after = Unit {0}
 
 abbrev pub FollowsOnce : {E : Type 0} → (had : ℕ) → Held → Result Followed E → Held → Type 0
-FollowsOnce had before (Ok (followed.Goes s)) after = (w : ℕ → ℕ) → held w s after + made w before ≡ w had + spent w before + made w after
+FollowsOnce had before (Ok (followed.Goes s)) after = (w : ℕ → ℕ) → accounted w s after + made w before ≡ w had + spent w before + made w after
 FollowsOnce had before (Ok (followed.Over o)) after = Balances (λ w. w had) before (λ w. w o.node) after
 FollowsOnce had before (Err e) after = Unit {0}

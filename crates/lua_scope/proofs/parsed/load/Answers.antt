@@ -19,9 +19,10 @@ loaded text made scoped le has is clear = subst (λ (c : ChunkNodes). LoadsAs te
 pub invariant_of-result : goal.invariant_of-result
 invariant_of-result c =
     let le : length c.args.text.items ≤ most_text = subst (λ (n : ℕ). n ≤ 1048576) (ap length c.as_slice-bytes.ensures.value) c.if-bytes-gt-MOST_TEXT.false in
-    let has : HasTokensOf c.args.text.items (tree_of c.in_ok-chunk.chunk) = subst (λ (bytes : List ℕ). HasTokensOf bytes (tree_of c.in_ok-chunk.chunk)) c.as_slice-bytes.ensures.value c.in_ok-chunk.ensures.chunk in
-    (loaded c.args.text.items c.in_ok-chunk.chunk c.in-Ok.scoped le has c.in-Ok.ensures.chunk c.in-Ok.ensures.loads,
-    subst (λ (made : ChunkNodes). IsEachOnce made) (sym c.in-Ok.ensures.chunk) c.in_ok-chunk.ensures.once)
+    let has : HasTokensOf c.args.text.items (tree_of c.in_ok-chunk.chunk) = subst (λ (bytes : List ℕ). HasTokensOf bytes (tree_of c.in_ok-chunk.chunk)) c.as_slice-bytes.ensures.value c.in_ok-chunk.ensures.chunk in (
+      loaded c.args.text.items c.in_ok-chunk.chunk c.in-Ok.scoped le has c.in-Ok.ensures.chunk c.in-Ok.ensures.loads,
+      subst (λ (made : ChunkNodes). IsEachOnce made) (sym c.in-Ok.ensures.chunk) c.in_ok-chunk.ensures.once,
+    )
 
 pub returns-in-Ok-clause-tree : goal.returns-in-Ok-clause-tree
 returns-in-Ok-clause-tree c =

@@ -23,5 +23,5 @@ returns-in-Return-clause-gave c =
     let same : f ≡ g = ap (λ (x : OpenStatement). statement_in ns x) c.in-Return.is in
     let at = λ (w : Bool). ap (λ (x : pushdown.Frame). pushdown.close x t k m (place w c.args.line c.args.slice.now)) same ∙ close_return_at w l es b t k m c.args.line 0 c.args.slice.now [] in
     gave_as (pushdown.close f t k m (place true c.args.line c.args.slice.now)) (pushdown.close g t k m (place true 0 []))
-        (pushdown.close f t k m (place false c.args.line c.args.slice.now)) (pushdown.close g t k m (place false 0 [])) c.close_return.result c.close_return.new.self
-        (at true) (at false) c.close_return.ensures.gave
+    (pushdown.close f t k m (place false c.args.line c.args.slice.now)) (pushdown.close g t k m (place false 0 [])) c.close_return.result c.close_return.new.self
+    (at true) (at false) c.close_return.ensures.gave

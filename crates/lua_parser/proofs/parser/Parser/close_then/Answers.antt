@@ -17,7 +17,7 @@ returns-clause-gave c =
     let e = ap (λ (ts : List ℕ). cases_of part ts c.push-2.new.self) c.in_ok-push.ensures.ok ∙ ap (λ (bs : List ℕ). cases_of part (c.args.tests ++ c.args.test ∷ []) bs) c.in_ok-push-2.ensures.ok
     ∙ cases_of_push part c.args.tests c.args.blocks c.args.test c.args.body c.requires.cases.2 in
     gave_at (λ (cs : Cases). after_cases c.args.line cs (begun_in c.args.self.now.nodes c.args.block) (stack_in c.args.self.now) (mark_of c.args.kind) (place true 0 [])) (λ (cs : Cases). after_cases c.args.line cs (begun_in c.args.self.now.nodes c.args.block) (stack_in c.args.self.now) (mark_of c.args.kind) (place false 0 []))
-        (case (cases_of part c.args.tests c.args.blocks) (part c.args.test) (part c.args.body)) (cases_of part c.push.new.self c.push-2.new.self) c.close_cases.result c.close_cases.new.self (sym e) c.close_cases.ensures.gave
+    (case (cases_of part c.args.tests c.args.blocks) (part c.args.test) (part c.args.body)) (cases_of part c.push.new.self c.push-2.new.self) c.close_cases.result c.close_cases.new.self (sym e) c.close_cases.ensures.gave
 
 pub returns-clause-once : goal.returns-clause-once
 returns-clause-once c =

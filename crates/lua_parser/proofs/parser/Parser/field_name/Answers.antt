@@ -26,5 +26,5 @@ returns-in_ok-had-in_default-clause-gave c =
     ∙ ap (λ (x : List pushdown.Frame). pushdown.follow x 0 n m (place w c.args.line c.args.slice.now)) stack
     ∙ ap (λ (x : tree.Tree). pushdown.follow z 0 x m (place w c.args.line c.args.slice.now)) name in
     gave_as (pushdown.field_name u c.args.table.line fs c.args.own c.args.name k m (place true c.args.line c.args.slice.now)) (pushdown.follow z 0 t m (place true c.args.line c.args.slice.now))
-        (pushdown.field_name u c.args.table.line fs c.args.own c.args.name k m (place false c.args.line c.args.slice.now)) (pushdown.follow z 0 t m (place false c.args.line c.args.slice.now)) c.follow.result c.follow.new.self
-        (at true) (at false) c.follow.ensures.gave
+    (pushdown.field_name u c.args.table.line fs c.args.own c.args.name k m (place false c.args.line c.args.slice.now)) (pushdown.follow z 0 t m (place false c.args.line c.args.slice.now)) c.follow.result c.follow.new.self
+    (at true) (at false) c.follow.ensures.gave

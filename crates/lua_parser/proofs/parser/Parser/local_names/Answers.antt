@@ -28,5 +28,5 @@ returns-in_default-token-clause-gave c =
     let i = place true c.args.line c.args.slice.now in
     let j = place false c.args.line c.args.slice.now in
     gave_as (pushdown.local_names l ns b k (mark_of c.args.kind) i) (pushdown.next (pushdown.add b (tree.Local 0 l ns ts)) k (token x) i)
-        (pushdown.local_names l ns b k (mark_of c.args.kind) j) (pushdown.next (pushdown.add b (tree.Local 0 l ns ts)) k (token x) j)
-        c.next_after-in_default-token.result c.next_after-in_default-token.new.self (same i) (same j) c.next_after-in_default-token.ensures.gave
+    (pushdown.local_names l ns b k (mark_of c.args.kind) j) (pushdown.next (pushdown.add b (tree.Local 0 l ns ts)) k (token x) j)
+    c.next_after-in_default-token.result c.next_after-in_default-token.new.self (same i) (same j) c.next_after-in_default-token.ensures.gave

@@ -16,7 +16,7 @@ returns-in_default-clause-gave c =
     let m = token c.args.kind in
     let l = c.args.line in
     λ s. gave_as (next_block b k m (place true l s)) (pushdown.end_block k t m (place true 0 []))
-        (next_block b k m (place false l s)) (pushdown.end_block k t m (place false 0 [])) c.end_block.result c.end_block.new.self
-        (next_block_other b k c.args.kind (place true l s) c.in_default.not-Do c.in_default.not-While c.in_default.not-Repeat c.in_default.not-If ∙ end_at true k t m l 0 s [])
-        (next_block_other b k c.args.kind (place false l s) c.in_default.not-Do c.in_default.not-While c.in_default.not-Repeat c.in_default.not-If ∙ end_at false k t m l 0 s [])
-        c.end_block.ensures.gave
+    (next_block b k m (place false l s)) (pushdown.end_block k t m (place false 0 [])) c.end_block.result c.end_block.new.self
+    (next_block_other b k c.args.kind (place true l s) c.in_default.not-Do c.in_default.not-While c.in_default.not-Repeat c.in_default.not-If ∙ end_at true k t m l 0 s [])
+    (next_block_other b k c.args.kind (place false l s) c.in_default.not-Do c.in_default.not-While c.in_default.not-Repeat c.in_default.not-If ∙ end_at false k t m l 0 s [])
+    c.end_block.ensures.gave

@@ -17,5 +17,5 @@ returns-in-BlockEnd-clause-gave c =
     let s = state_in ns k c.args.state in
     let at = λ (w : Bool). ap (λ (x : State). pushdown.step_from (state_in ns k x) m (place w c.args.line c.args.slice.now)) c.in-BlockEnd.is ∙ end_at w k t m c.args.line 0 c.args.slice.now [] in
     gave_as (pushdown.step_from s m (place true c.args.line c.args.slice.now)) (pushdown.end_block k t m (place true 0 []))
-        (pushdown.step_from s m (place false c.args.line c.args.slice.now)) (pushdown.end_block k t m (place false 0 [])) c.end_block.result c.end_block.new.self
-        (at true) (at false) c.end_block.ensures.gave
+    (pushdown.step_from s m (place false c.args.line c.args.slice.now)) (pushdown.end_block k t m (place false 0 [])) c.end_block.result c.end_block.new.self
+    (at true) (at false) c.end_block.ensures.gave
