@@ -20,3 +20,4 @@ pub mod PlainRefusals
 pub mod Loading
 mod OneAnswer
 mod EveryText
+pub mod Capturing

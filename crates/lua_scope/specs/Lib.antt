@@ -9,6 +9,7 @@ pub mod Visible
 pub mod Scope
 pub mod Variables
 pub mod Once
+pub mod Uses
 pub mod Refusals
 pub mod Resolved
 pub mod OfChunk

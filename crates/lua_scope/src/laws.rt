@@ -1,6 +1,7 @@
 //! Laws of what names mean. Each function does nothing, and its contract is the law.
 
-ghost use Rattle.std.specs.Prelude.{◌≡◌, ◌⊎◌, ℕ, List, []};
+ghost use Rattle.std.specs.Prelude.{◌≡◌, ◌⊎◌, ℕ, ◌==◌, true, List, []};
+ghost use Rattle.std.specs.List.{list_any};
 ghost use Rattle.std.specs.List.Sorted.{IsStrictlyIncreasing};
 ghost use Rattle.lua_scope.specs.declared.event.Event.{Event as EventOf};
 ghost use Rattle.lua_ast.specs.Tree.{Tree};
@@ -9,11 +10,20 @@ ghost use Rattle.lua_scope.specs.History.{history};
 ghost use Rattle.lua_scope.specs.Loads.{LoadsAs, Loads, LoadFails};
 ghost use Rattle.lua_scope.specs.Refusals.{first_refusal};
 ghost use Rattle.lua_scope.specs.declared.load_error.LoadError.{LoadError as ErrorOf};
-ghost use Rattle.lua_scope.specs.Variables.{captured_by};
+ghost use Rattle.lua_scope.specs.Variables.{captured_by, is_captured};
+ghost use Rattle.lua_scope.specs.Uses.{UsesInside};
 
 /// The variables that a function captures are told rising, each once.
 pub fn captured_variables_rise()
     ensures { (h : List EventOf) (f : ℕ) → IsStrictlyIncreasing (captured_by h f) }
+{}
+
+/// A function captures a variable exactly where a Name inside the function means it and the variable was named before the function's own (Lua 5.2 manual, 3.5).
+pub fn captured_where_used()
+    ensures used { (h : List EventOf) (f v : ℕ) → list_any (λ w. w == v) (captured_by h f) ≡ true → UsesInside h f v }
+    ensures all { (h : List EventOf) (f v : ℕ) → UsesInside h f v → list_any (λ w. w == v) (captured_by h f) ≡ true }
+    ensures flagged { (h : List EventOf) (v : ℕ) → is_captured h v ≡ true → (f : ℕ) × UsesInside h f v }
+    ensures flags { (h : List EventOf) (f v : ℕ) → UsesInside h f v → is_captured h v ≡ true }
 {}
 
 /// A text is refused by its tree alone: the numbers of the nodes don't matter.
