@@ -18,7 +18,8 @@ pub fn captured_variables_rise()
     ensures { (h : List EventOf) (f : ℕ) → IsStrictlyIncreasing (captured_by h f) }
 {}
 
-/// A function captures a variable exactly where a Name inside the function means it and the variable was named before the function's own (Lua 5.2 manual, 3.5).
+/// A function captures a variable exactly where a Name inside the function means the variable and
+/// it was named before the function's own (Lua 5.2 manual, 3.5).
 pub fn captured_where_used()
     ensures used { (h : List EventOf) (f v : ℕ) → list_any (λ w. w == v) (captured_by h f) ≡ true → UsesInside h f v }
     ensures all { (h : List EventOf) (f v : ℕ) → UsesInside h f v → list_any (λ w. w == v) (captured_by h f) ≡ true }
