@@ -94,9 +94,9 @@ impl ChunkBuilder {
         lined_node(self.nodes.as_slice(), id).line
     }
 
-    /// The chunk of these nodes, with this one as the node of the whole text. Where the node of the
-    /// text and the parts of all nodes are the nodes once each, by any weight, each stands once in
-    /// the tree.
+    /// The chunk of these nodes, with this one as the node of the whole text. Where this node and
+    /// the parts of all nodes are together each node once, whatever the nodes weigh, each stands
+    /// once in the tree.
     #[tactic(auto, using(crate::proofs::EachOnce::each_once))]
     pub fn finish(self, root: NodeId) -> Chunk
         requires { root < length self }

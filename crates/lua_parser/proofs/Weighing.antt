@@ -1,4 +1,4 @@
--- The weight of what was begun, one part or frame more.
+-- Weights, one part or node more.
 use Rattle.std.specs.Prelude.{◌≡◌, ℕ, zero, suc, ◌+◌, List, [], ◌∷◌, ◌++◌, length, Result, Ok, Err, refl}
 use Rattle.std.proofs.Common.{ap, ◌∙◌, arith, length-append}
 use Rattle.lua_ast.specs.declared.node.LinedNode.{LinedNode}
@@ -7,13 +7,13 @@ use Rattle.lua_parser.specs.Shown.{Held}
 use Rattle.lua_ast.specs.Weights.{list_weight, cases_weight, fields_weight, field_weight, parts_weight, nodes_weight, total}
 use Rattle.lua_ast.specs.declared.node.Field.{Field}
 use Rattle.lua_parser.specs.declared.state.State.{State}
-use Rattle.lua_parser.specs.Weights.{frame_weight, spent, made, Spends}
+use Rattle.lua_parser.specs.Weights.{frame_weight, spent_weight, made_weight, Spends}
 
 pub list_push : (w : ℕ → ℕ) (is : List ℕ) (i : ℕ) → list_weight w (is ++ i ∷ []) ≡ list_weight w is + w i
 list_push w [] i = omega arith
 list_push w (j ∷ is) i = omega (arith, list_push w is i)
 
-pub nodes_push : (w : ℕ → ℕ) (ns : List LinedNode) (n : LinedNode) → nodes_weight w (ns ++ n ∷ []) ≡ nodes_weight w ns + parts_weight w n.node
+nodes_push : (w : ℕ → ℕ) (ns : List LinedNode) (n : LinedNode) → nodes_weight w (ns ++ n ∷ []) ≡ nodes_weight w ns + parts_weight w n.node
 nodes_push w [] n = omega arith
 nodes_push w (m ∷ ns) n = omega (arith, nodes_push w ns n)
 
@@ -34,17 +34,13 @@ total_next w (suc k) = ap (total w) (same k) where
   same k = omega arith
 
 pub added : (ns ms : List LinedNode) (n : LinedNode) (fs : List Frame) (i : ℕ) → ms ≡ ns ++ n ∷ [] → i ≡ length ns → (w : ℕ → ℕ) →
-    w i + spent w (record { nodes = ms; frames = fs }) + made w (record { nodes = ns; frames = fs }) ≡ parts_weight w n.node + spent w (record { nodes = ns; frames = fs }) + made w (record { nodes = ms; frames = fs })
-unfolding spent made
+    w i + spent_weight w (record { nodes = ms; frames = fs }) + made_weight w (record { nodes = ns; frames = fs }) ≡ parts_weight w n.node + spent_weight w (record { nodes = ns; frames = fs }) + made_weight w (record { nodes = ms; frames = fs })
+unfolding spent_weight made_weight
 added ns ms n fs i e at w =
     let used = ap (nodes_weight w) e ∙ nodes_push w ns n in
     let more : total w (length ms) ≡ total w (length ns) + w (length ns) = ap (λ (xs : List LinedNode). total w (length xs)) e ∙ ap (total w) (length-append ns (n ∷ [])) ∙ total_next w (length ns) in
     let here = ap w at in
     omega (arith, used, more, here)
-
-pub spent_push : (w : ℕ → ℕ) (ns : List LinedNode) (f : Frame) (fs : List Frame) → spent w (record { nodes = ns; frames = f ∷ fs }) ≡ frame_weight w f + spent w (record { nodes = ns; frames = fs })
-unfolding spent
-spent_push w ns f fs = omega arith
 
 pub spends_as : {E : Type 0} (f g : (ℕ → ℕ) → ℕ) (before : Held) (r : Result State E) (after : Held) → ((w : ℕ → ℕ) → f w ≡ g w) → Spends g before r after → Spends f before r after
 spends_as f g before (Ok s) after same h = λ w. omega (arith, same w, h w)

@@ -131,31 +131,31 @@ state_weight w (state.BlockEnd b) = begun_weight w b
 state_weight w (state.Done t) = w t
 
 -- the weight of what is spent: of the nodes that are parts of nodes or stand in frames
-unfoldable pub spent : (ℕ → ℕ) → Held → ℕ
-spent w h = frames_weight w h.frames + nodes_weight w h.nodes
+unfoldable pub spent_weight : (ℕ → ℕ) → Held → ℕ
+spent_weight w h = frames_weight w h.frames + nodes_weight w h.nodes
 
 -- the weight of all nodes, once each
-unfoldable pub made : (ℕ → ℕ) → Held → ℕ
-made w h = total w (length h.nodes)
+unfoldable pub made_weight : (ℕ → ℕ) → Held → ℕ
+made_weight w h = total w (length h.nodes)
 
--- Nodes were given and nodes are left. The others of those that were given or made are spent, each once.
+-- What was given or made is left or spent, once: nothing is lost and nothing is used twice.
 abbrev pub Balances : (given : (ℕ → ℕ) → ℕ) → Held → (left : (ℕ → ℕ) → ℕ) → Held → Type 0
-Balances given before left after = (w : ℕ → ℕ) → left w + spent w after + made w before ≡ given w + spent w before + made w after
+Balances given before left after = (w : ℕ → ℕ) → left w + spent_weight w after + made_weight w before ≡ given w + spent_weight w before + made_weight w after
 
--- what is spent, and what a state has; where the text is over, no frame is left
+-- What is spent, and what a state has. At the end of the text what frames hold doesn't count, so nothing can be left in one.
 abbrev pub accounted : (ℕ → ℕ) → State → Held → ℕ
 accounted w (state.Done t) h = w t + nodes_weight w h.nodes
-accounted w s h = state_weight w s + spent w h
+accounted w s h = state_weight w s + spent_weight w h
 
 -- the same where a state is left
 abbrev pub Spends : {E : Type 0} → (given : (ℕ → ℕ) → ℕ) → Held → Result State E → Held → Type 0
-Spends given before (Ok s) after = (w : ℕ → ℕ) → accounted w s after + made w before ≡ given w + spent w before + made w after
+Spends given before (Ok s) after = (w : ℕ → ℕ) → accounted w s after + made_weight w before ≡ given w + spent_weight w before + made_weight w after
 Spends given before (Err e) after = Unit {0}
 
--- the same of a whole step from state to state
-abbrev pub Passes : {E : Type 0} → State → Held → Result State E → Held → Type 0
-Passes s before (Ok t) after = (w : ℕ → ℕ) → accounted w t after + made w before ≡ accounted w s before + made w after
-Passes s before (Err e) after = Unit {0}
+-- the same of a step from state to state
+abbrev pub StepsOnce : {E : Type 0} → State → Held → Result State E → Held → Type 0
+StepsOnce s before (Ok t) after = (w : ℕ → ℕ) → accounted w t after + made_weight w before ≡ accounted w s before + made_weight w after
+StepsOnce s before (Err e) after = Unit {0}
 
 -- the same where the expression that was given is over; inside something else it stays given
 abbrev pub FoldsOnce : (had : ℕ) → Held → Folded → Held → Type 0
@@ -164,6 +164,6 @@ FoldsOnce had before (folded.Inside f) after = Balances (λ _. 0) before (λ w. 
 FoldsOnce had before folded.Nothing after = Unit {0}
 
 abbrev pub FollowsOnce : {E : Type 0} → (had : ℕ) → Held → Result Followed E → Held → Type 0
-FollowsOnce had before (Ok (followed.Goes s)) after = (w : ℕ → ℕ) → accounted w s after + made w before ≡ w had + spent w before + made w after
+FollowsOnce had before (Ok (followed.Goes s)) after = (w : ℕ → ℕ) → accounted w s after + made_weight w before ≡ w had + spent_weight w before + made_weight w after
 FollowsOnce had before (Ok (followed.Over o)) after = Balances (λ w. w had) before (λ w. w o.node) after
 FollowsOnce had before (Err e) after = Unit {0}

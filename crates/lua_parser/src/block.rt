@@ -18,7 +18,7 @@ use lua_lexer::TokenKind;
 
 impl Parser {
     /// A block ends.
-    #[tactic(auto, unfolding(crate::specs::Weights::spent))]
+    #[tactic(auto, unfolding(crate::specs::Weights::spent_weight))]
     pub fn end_block(&mut self, block: Begun, kind: Option<TokenKind>) -> Result<State, Refusal>
         requires { BegunBelow (length self.old.nodes) block }
         ensures gave { Gave

@@ -8,7 +8,7 @@ ghost use Rattle.lua_grammar.specs.Pushdown.{BlockNext, StatNext, InFunction, ad
 ghost use Rattle.lua_parser.specs.Shown.{tree_in, stack_in, state_in, begun_in, head_in, given, place, BegunBelow, HeadBelow, StateBelow};
 ghost use Rattle.lua_parser.specs.Gave.{Gave, within};
 ghost use Rattle.lua_ast.specs.Weights.{parts_weight};
-ghost use Rattle.lua_parser.specs.Weights.{Spends, Passes, begun_weight, head_weight};
+ghost use Rattle.lua_parser.specs.Weights.{Spends, StepsOnce, begun_weight, head_weight};
 
 use crate::frame::{Begun, Frame, Head, OpenBlock};
 use crate::parser::Parser;
@@ -25,7 +25,7 @@ impl Parser {
         requires { StateBelow (length self.now.nodes) state }
         ensures gave { Gave (within (suc (suc (depth (stack_in self.now)))) (state_in self.now.nodes (stack_in self.now) state))
             (Some (state_in self.now.nodes (stack_in self.now) state)) result self.now }
-        ensures once { Passes state self.now result self.now }
+        ensures once { StepsOnce state self.now result self.now }
     {
         if self.depth() >= 199 {
             return Err(Refusal::TooDeep);

@@ -4,7 +4,7 @@ ghost use Rattle.std.specs.Prelude.{◌≡◌, ◌<◌, ◌+◌, ◌∷◌, suc,
 ghost use Rattle.lua_ast.specs.Decode.{PartsBelow, node_tree};
 ghost use Rattle.lua_grammar.specs.Pushdown.{Need, BlockNext, Have, add, depth, lift, block_of};
 ghost use Rattle.lua_ast.specs.Weights.{parts_weight};
-ghost use Rattle.lua_parser.specs.Weights.{begun_weight, block_weight, frame_weight, Balances, Spends, Passes};
+ghost use Rattle.lua_parser.specs.Weights.{begun_weight, block_weight, frame_weight, Balances, Spends, StepsOnce};
 ghost use Rattle.lua_parser.specs.Shown.{tree_in, stack_in, state_in, begun_in, block_in, frame_in, BegunBelow, BlockBelow, FrameBelow, StateBelow};
 ghost use Rattle.lua_parser.specs.Gave.{Gave, within};
 
@@ -70,7 +70,7 @@ impl Parser {
         requires { StateBelow (length self.now.nodes) state }
         ensures gave { Gave (within (suc (depth (stack_in self.now))) (state_in self.now.nodes (stack_in self.now) state))
             (Some (state_in self.now.nodes (stack_in self.now) state)) result self.now }
-        ensures once { Passes state self.now result self.now }
+        ensures once { StepsOnce state self.now result self.now }
     {
         if self.depth() >= 200 {
             return Err(Refusal::TooDeep);

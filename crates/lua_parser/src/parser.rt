@@ -8,8 +8,8 @@ ghost use Rattle.lua_grammar.specs.Pushdown.{level_of, depth};
 ghost use Rattle.lua_parser.specs.declared.frame.Begun.{Begun as begun};
 ghost use Rattle.lua_parser.specs.declared.frame.Callee.{Callee as callee};
 ghost use Rattle.lua_ast.specs.Once.{IsEachOnce};
-ghost use Rattle.lua_ast.specs.Weights.{parts_weight, nodes_weight};
-ghost use Rattle.lua_parser.specs.Weights.{frame_weight, spent, made, Balances};
+ghost use Rattle.lua_ast.specs.Weights.{parts_weight, nodes_weight, total};
+ghost use Rattle.lua_parser.specs.Weights.{frame_weight, spent_weight, made_weight, Balances};
 ghost use Rattle.lua_parser.specs.Shown.{tree_in, stack_in, begun_in, callee_in, frame_in, BegunBelow, CalleeBelow, FrameBelow};
 
 use crate::frame::Frame;
@@ -40,11 +40,11 @@ impl Model for Parser {
 
 impl Parser {
     /// Nothing was read yet.
-    #[tactic(auto, unfolding(crate::specs::Shown::stack_in, crate::specs::Weights::spent, crate::specs::Weights::made))]
+    #[tactic(auto, unfolding(crate::specs::Shown::stack_in, crate::specs::Weights::spent_weight, crate::specs::Weights::made_weight))]
     pub fn new(alloc: Global) -> Parser
         ensures nodes { result.nodes ≡ [] }
         ensures stack { stack_in result ≡ [] }
-        ensures once { (w : ℕ → ℕ) → spent w result ≡ made w result }
+        ensures once { (w : ℕ → ℕ) → spent_weight w result ≡ made_weight w result }
     {
         Parser {
             alloc,
@@ -54,10 +54,10 @@ impl Parser {
     }
 
     /// The chunk of these nodes, with this one as the node of the whole text.
-    #[tactic(auto, unfolding(crate::specs::Weights::made))]
     pub fn chunk(self, root: NodeId) -> Chunk
         requires within { root < length self.nodes }
-        requires balance { (w : ℕ → ℕ) → w root + nodes_weight w self.nodes ≡ made w self }
+        requires balance { (w : ℕ → ℕ) →
+            w root + nodes_weight w self.nodes ≡ total w (length self.nodes) }
         ensures nodes { result.nodes ≡ self.nodes }
         ensures root { result.root ≡ root }
         ensures once { IsEachOnce result }
@@ -105,7 +105,7 @@ impl Parser {
     }
 
     /// Puts a frame on top.
-    #[tactic(auto, unfolding(crate::specs::Shown::stack_in, crate::specs::Weights::spent, crate::specs::Weights::made))]
+    #[tactic(auto, unfolding(crate::specs::Shown::stack_in, crate::specs::Weights::spent_weight, crate::specs::Weights::made_weight))]
     pub fn push(&mut self, frame: Frame) -> Result<(), AllocError>
         requires { FrameBelow (length self.old.nodes) frame }
         ensures nodes { OnOk result (self.new.nodes ≡ self.old.nodes) }
@@ -117,7 +117,7 @@ impl Parser {
     }
 
     /// Takes the frame on top off.
-    #[tactic(auto, unfolding(crate::specs::Shown::stack_in, crate::specs::Weights::spent, crate::specs::Weights::made))]
+    #[tactic(auto, unfolding(crate::specs::Shown::stack_in, crate::specs::Weights::spent_weight, crate::specs::Weights::made_weight))]
     pub fn pop(&mut self) -> Option<Frame>
         ensures nodes { self.new.nodes ≡ self.old.nodes }
         ensures empty { IfNone result (self.new.frames ≡ []) }

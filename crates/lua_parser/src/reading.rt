@@ -10,7 +10,7 @@ ghost use Rattle.lua_grammar.specs.Pushdown.{step_from};
 ghost use Rattle.lua_grammar.specs.Deciding.{reading, reading_at_end};
 ghost use Rattle.lua_parser.specs.Parsing.{tree_of, HasTree, IsRefusal, Tells, AreFit, refusal_at};
 ghost use Rattle.lua_ast.specs.Once.{IsEachOnce};
-ghost use Rattle.lua_parser.specs.Weights.{spent, made, accounted};
+ghost use Rattle.lua_parser.specs.Weights.{spent_weight, made_weight, accounted};
 ghost use Rattle.lua_parser.specs.Shown.{stack_in, state_in, place, StateBelow};
 
 use crate::parse_error::ParseError;
@@ -51,12 +51,12 @@ fn parse_tokens(alloc: Global, text: &[u8], tokens: &[Token]) -> Result<Chunk, P
 fn read(parser: &mut Parser, text: &[u8], tokens: &[Token]) -> Result<State, ParseError>
     requires fit { AreFit text.now tokens.now }
     requires nothing { stack_in parser.old ≡ [] }
-    requires balance { (w : ℕ → ℕ) → spent w parser.old ≡ made w parser.old }
+    requires balance { (w : ℕ → ℕ) → spent_weight w parser.old ≡ made_weight w parser.old }
     ensures state { IfOk result (λ state. reading text.now tokens.now
         ≡ reading_at_end (step_from (state_in parser.new.nodes (stack_in parser.new) state) end (place true 1 []))) }
     ensures below { IfOk result (λ state. StateBelow (length parser.new.nodes) state) }
     ensures refused { IfErr result (λ error. Tells tokens.now (reading text.now tokens.now) (Err error)) }
-    ensures once { IfOk result (λ state. (w : ℕ → ℕ) → accounted w state parser.new ≡ made w parser.new) }
+    ensures once { IfOk result (λ state. (w : ℕ → ℕ) → accounted w state parser.new ≡ made_weight w parser.new) }
 {
     let mut state = State::BlockNext;
     for token in tokens {
@@ -80,9 +80,10 @@ fn refusal_at(refusal: Refusal, start: u32) -> ParseError
 }
 
 /// The text ends.
+#[tactic(auto, unfolding(crate::specs::Weights::made_weight))]
 fn finish(mut parser: Parser, state: State) -> Result<Chunk, ParseError>
     requires below { StateBelow (length parser.nodes) state }
-    requires balance { (w : ℕ → ℕ) → accounted w state parser ≡ made w parser }
+    requires balance { (w : ℕ → ℕ) → accounted w state parser ≡ made_weight w parser }
     ensures told { (ts : List token_at) → Tells ts
         (reading_at_end (step_from (state_in parser.nodes (stack_in parser) state) end (place true 1 []))) result }
     ensures once { IfOk result (λ chunk. IsEachOnce chunk) }

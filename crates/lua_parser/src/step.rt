@@ -5,7 +5,7 @@ ghost use Rattle.lua_grammar.specs.Signs.{token, end};
 ghost use Rattle.lua_grammar.specs.Pushdown.{begun, next, step_from};
 ghost use Rattle.lua_parser.specs.Shown.{stack_in, state_in, place, StateBelow};
 ghost use Rattle.lua_parser.specs.Gave.{Gave, IsSmall, mark_of};
-ghost use Rattle.lua_parser.specs.Weights.{Spends, Passes};
+ghost use Rattle.lua_parser.specs.Weights.{Spends, StepsOnce};
 
 use crate::frame::Begun;
 use crate::parser::Parser;
@@ -46,7 +46,7 @@ impl Parser {
             (step_from (state_in self.old.nodes (stack_in self.old) state) (token kind) (place true line slice.now))
             (step_from (state_in self.old.nodes (stack_in self.old) state) (token kind) (place false line slice.now))
             result self.new }
-        ensures once { Passes state self.old result self.new }
+        ensures once { StepsOnce state self.old result self.new }
     {
         match state {
             State::Need { limit } => self.begin(limit, kind, line, slice),
@@ -96,7 +96,7 @@ impl Parser {
             (step_from (state_in self.old.nodes (stack_in self.old) state) end (place true 1 []))
             (step_from (state_in self.old.nodes (stack_in self.old) state) end (place false 1 []))
             result self.new }
-        ensures once { Passes state self.old result self.new }
+        ensures once { StepsOnce state self.old result self.new }
     {
         match state {
             State::Have { limit, node } => self.follow(limit, node, None, 1, &[]),

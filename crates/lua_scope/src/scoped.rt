@@ -16,8 +16,8 @@ use std::alloc::Global;
 use std::marker::Model;
 
 /// A chunk that breaks no scope rule, with the places of its names. Contracts see it as its chunk.
-/// Of a node that is a part twice, which the parser never makes, the answers are those of its last
-/// place in the text, and a Function captures for each of its places.
+/// Of a node that is a part twice, which no chunk of the parser has, the answers are those of its
+/// last place in the text, and a Function captures for each of its places.
 #[derive(Debug, Drop)]
 pub struct ScopedChunk {
     chunk: Chunk,

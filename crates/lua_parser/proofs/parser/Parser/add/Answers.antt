@@ -3,7 +3,7 @@ use Rattle.std.proofs.Common.{ap, ◌∙◌, sym, subst}
 use Rattle.lua_ast.specs.Decode.{no_number}
 use Rattle.lua_parser.specs.Shown.{Held, stack_in, begun_in, BegunBelow}
 use Rattle.lua_ast.specs.Weights.{parts_weight}
-use Rattle.lua_parser.specs.Weights.{spent, made}
+use Rattle.lua_parser.specs.Weights.{spent_weight, made_weight}
 use Rattle.lua_parser.proofs.Weighing.{added}
 use Rattle.lua_parser.proofs.Nodes.{below_frames, grown, same_begun, same_stack}
 use Rattle.lua_parser.proofs.parser.Parser.add.Goals as goal
@@ -30,5 +30,5 @@ returns-clause-begun c = λ b h.
 
 pub returns-clause-once : goal.returns-clause-once
 returns-clause-once c = λ w.
-    subst (λ (h : Held). w c.in_ok-push.field-0 + spent w (record { nodes = c.push.new.self; frames = c.self.inside.stack }) + made w h ≡ parts_weight w c.args.node + spent w h + made w (record { nodes = c.push.new.self; frames = c.self.inside.stack })) c.self.view_is
+    subst (λ (h : Held). w c.in_ok-push.field-0 + spent_weight w (record { nodes = c.push.new.self; frames = c.self.inside.stack }) + made_weight w h ≡ parts_weight w c.args.node + spent_weight w h + made_weight w (record { nodes = c.push.new.self; frames = c.self.inside.stack })) c.self.view_is
     (added c.self.inside.nodes c.push.new.self (record { node = c.args.node; line = c.args.line }) c.self.inside.stack c.in_ok-push.field-0 c.in_ok-push.ensures.nodes c.in_ok-push.ensures.id w)
