@@ -7,7 +7,7 @@ use Rattle.lua_parser.specs.Shown.{Held}
 use Rattle.lua_ast.specs.Weights.{list_weight, cases_weight, fields_weight, field_weight, parts_weight, nodes_weight, total}
 use Rattle.lua_ast.specs.declared.node.Field.{Field}
 use Rattle.lua_parser.specs.declared.state.State.{State}
-use Rattle.lua_parser.specs.Weights.{frame_weight, spent_weight, made_weight, Spends}
+use Rattle.lua_parser.specs.Weights.{spent_weight, made_weight, Spends}
 
 pub list_push : (w : ℕ → ℕ) (is : List ℕ) (i : ℕ) → list_weight w (is ++ i ∷ []) ≡ list_weight w is + w i
 list_push w [] i = omega arith
