@@ -8,6 +8,7 @@ mod Stepping
 pub mod Reversed
 pub mod MetOnce
 pub mod ToldOnce
+pub mod Bodies
 pub mod NameTables
 pub mod Naming
 pub mod Targets
