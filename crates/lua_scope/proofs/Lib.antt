@@ -9,6 +9,7 @@ pub mod Reversed
 pub mod MetOnce
 pub mod ToldOnce
 pub mod Bodies
+pub mod GrammarBlocks
 pub mod NameTables
 pub mod Naming
 pub mod Targets
