@@ -10,6 +10,8 @@ pub mod MetOnce
 pub mod ToldOnce
 pub mod Bodies
 pub mod GrammarBlocks
+mod StaysMet
+pub mod EachMet
 pub mod NameTables
 pub mod Naming
 pub mod Targets

@@ -1,6 +1,8 @@
 -- Where a text has what a history tells of. Each node that names variables, and each Name, stands at one place.
-use Rattle.std.specs.Prelude.{◌≡◌, ℕ, ◌==◌, List, ◌∷◌, ◌++◌, Option, Some, None}
+use Rattle.std.specs.Prelude.{◌≡◌, ℕ, ◌==◌, List, ◌∷◌, ◌++◌, length, Option, Some, None}
 use Rattle.std.specs.List.{IsDistinct, filter_map}
+use Rattle.lua_ast.specs.declared.node.Node.{Node}
+use Rattle.lua_ast.specs.declared.node.Node.TheVariants as node
 use Rattle.lua_scope.specs.declared.event.Event.{Event}
 use Rattle.lua_scope.specs.declared.event.Event.TheVariants as event
 
@@ -21,3 +23,13 @@ IsOnce h = IsDistinct (λ i j. i == j) (nodes_of h)
 pub record Meets (text before : List Event) (e : Event) : Type 0 where
   pub after : List Event
   pub joined : after ++ e ∷ before ≡ text
+
+-- what a walk tells of a node: that it names variables, or is a Name
+abbrev pub told_of : ℕ → Node → Option Event
+told_of i (node.Local names _) = Some (event.Declare i (length names))
+told_of i (node.NumFor _ _ _ _ _) = Some (event.Declare i 1)
+told_of i (node.GenFor names _ _) = Some (event.Declare i (length names))
+told_of i (node.LocalFunction _ _) = Some (event.Declare i 1)
+told_of i (node.Function params _ _) = Some (event.Declare i (length params))
+told_of i (node.Name text) = Some (event.Use i text)
+told_of i _ = None
