@@ -19,7 +19,7 @@ use Rattle.lua_scope.specs.declared.event.Event.TheVariants as event
 use Rattle.lua_scope.specs.declared.event.Opening.TheVariants as opening
 use Rattle.lua_scope.specs.History.{opens, history, list_history, stats_history, body_history, cases_history, maybe_history, fields_history}
 use Rattle.lua_scope.specs.OfChunk.{history_of}
-use Rattle.lua_scope.specs.Once.{Meets, told_of}
+use Rattle.lua_scope.specs.Meets.{Meets, told_of}
 use Rattle.lua_scope.proofs.Bodies.{IsBlock, HasBlocks, HaveBlocks, CasesHaveBlocks, MaybeHasBlocks, FieldsHaveBlocks}
 use Rattle.lua_scope.proofs.StaysMet.{Met, met_now, later, met_statement, stays, stays_list, stays_maybe}
 

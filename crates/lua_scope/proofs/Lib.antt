@@ -6,12 +6,14 @@ mod Scanning
 mod Blocks
 mod Stepping
 pub mod Reversed
+pub mod TellsOnce
 pub mod MetOnce
 pub mod ToldOnce
 pub mod Bodies
 pub mod GrammarBlocks
 mod StaysMet
 pub mod EachMet
+pub mod AllMet
 pub mod NameTables
 pub mod Naming
 pub mod Targets

@@ -1,8 +1,7 @@
 -- What a text has at one place means there what it means.
-use Rattle.std.specs.Prelude.{◌≡◌, ℕ, ◌==◌, Bool, true, false, if◌then◌else◌, List, [], ◌∷◌, ◌++◌, Some, refl}
+use Rattle.std.specs.Prelude.{◌≡◌, ℕ, ◌==◌, Bool, false, if◌then◌else◌, List, [], ◌∷◌, ◌++◌, Some, refl}
 use Rattle.std.specs.List.{AllByRecursion, IsDistinct}
-use Rattle.std.proofs.Common.{ap, ◌∙◌, sym, subst, inl, inr}
-use Rattle.std.proofs.lemmas.Bool.Decides.{eqb_tells}
+use Rattle.std.proofs.Common.{ap, ◌∙◌, sym, subst}
 use Rattle.std.proofs.lemmas.Map.Keys.{IsDistinct-head, IsDistinct-tail}
 use Rattle.lua_scope.specs.declared.event.Event.{Event}
 use Rattle.lua_scope.specs.declared.event.Event.TheVariants as event
@@ -12,15 +11,10 @@ use Rattle.lua_ast.specs.Decode.{ChunkNodes}
 use Rattle.lua_ast.specs.Once.{IsEachOnce}
 use Rattle.lua_scope.specs.OfChunk.{history_of}
 use Rattle.lua_scope.proofs.ToldOnce.{told_once}
-use Rattle.lua_scope.specs.Once.{node_of, nodes_of, IsOnce, Meets}
+use Rattle.lua_scope.specs.Meets.{Meets}
+use Rattle.lua_scope.proofs.TellsOnce.{node_of, nodes_of, same_number, same_itself, TellsOnce}
 
-same_node : (i : ℕ) → (i == i) ≡ true
-same_node i = elim (eqb_tells i i) [
-  | inl e ↦ e.0
-  | inr e ↦ absurd (e.1 refl)
-]
-
--- a node that the rest of a text has is none of those that are told apart from it
+-- a number that differs from all that a history tells of differs from each of them
 told_apart : (j i : ℕ) (e : Event) (after before : List Event) → node_of e ≡ Some i → AllByRecursion (λ k. (j == k) ≡ false) (nodes_of (after ++ e ∷ before)) → (j == i) ≡ false
 told_apart j i (event.Declare k _) [] before is h =
     let same : k ≡ i = cc in subst (λ (m : ℕ). (j == m) ≡ false) same h.0
@@ -43,16 +37,13 @@ told_apart j i e (event.SecondLabel _ ∷ after) before is h = told_apart j i e 
 told_apart j i e (event.Break _ ∷ after) before is h = told_apart j i e after before is h
 told_apart j i e (event.Vararg _ ∷ after) before is h = told_apart j i e after before is h
 
-abbrev same_number : ℕ → ℕ → Bool
-same_number i j = i == j
-
-rest_once : (j : ℕ) (h : List Event) → IsDistinct same_number (j ∷ nodes_of h) → IsOnce h
+rest_once : (j : ℕ) (h : List Event) → IsDistinct same_number (j ∷ nodes_of h) → TellsOnce h
 rest_once j h d = IsDistinct-tail same_number j (nodes_of h) d
 
 -- a Name means what its name means where it stands
-variable_there : (i : ℕ) (x : List ℕ) (after before : List Event) → IsOnce (after ++ event.Use i x ∷ before) → variable_of (after ++ event.Use i x ∷ before) i ≡ meaning before x
+variable_there : (i : ℕ) (x : List ℕ) (after before : List Event) → TellsOnce (after ++ event.Use i x ∷ before) → variable_of (after ++ event.Use i x ∷ before) i ≡ meaning before x
 unfolding variable_of
-variable_there i x [] before h = ap (λ (b : Bool). (if b then meaning before x else variable_of before i)) (same_node i)
+variable_there i x [] before h = ap (λ (b : Bool). (if b then meaning before x else variable_of before i)) (same_itself i)
 variable_there i x (event.Use j y ∷ after) before h =
     ap (λ (b : Bool). (if b then meaning (after ++ event.Use i x ∷ before) y else variable_of (after ++ event.Use i x ∷ before) i)) (told_apart j i (event.Use i x) after before refl (IsDistinct-head same_number j (nodes_of (after ++ event.Use i x ∷ before)) h))
     ∙ variable_there i x after before (rest_once j (after ++ event.Use i x ∷ before) h)
@@ -65,14 +56,14 @@ variable_there i x (event.SecondLabel _ ∷ after) before h = variable_there i x
 variable_there i x (event.Break _ ∷ after) before h = variable_there i x after before h
 variable_there i x (event.Vararg _ ∷ after) before h = variable_there i x after before h
 
-pub name_there : (i : ℕ) (x : List ℕ) (text before : List Event) → IsOnce text → Meets text before (event.Use i x) → variable_of text i ≡ meaning before x
-name_there i x text before once m =
-    ap (λ (h : List Event). variable_of h i) (sym m.joined) ∙ variable_there i x m.after before (subst IsOnce (sym m.joined) once)
+name_there : (i : ℕ) (x : List ℕ) (whole before : List Event) → TellsOnce whole → Meets whole before (event.Use i x) → variable_of whole i ≡ meaning before x
+name_there i x whole before once m =
+    ap (λ (h : List Event). variable_of h i) (sym m.joined) ∙ variable_there i x m.after before (subst TellsOnce (sym m.joined) once)
 
--- variables are numbered in the order in which nodes name them
-first_there : (i n : ℕ) (after before : List Event) → IsOnce (after ++ event.Declare i n ∷ before) → first_variable (after ++ event.Declare i n ∷ before) i ≡ declared before
+-- a node's first variable has as its number how many were named before it
+first_there : (i n : ℕ) (after before : List Event) → TellsOnce (after ++ event.Declare i n ∷ before) → first_variable (after ++ event.Declare i n ∷ before) i ≡ declared before
 unfolding first_variable
-first_there i n [] before h = ap (λ (b : Bool). (if b then declared before else first_variable before i)) (same_node i)
+first_there i n [] before h = ap (λ (b : Bool). (if b then declared before else first_variable before i)) (same_itself i)
 first_there i n (event.Declare j m ∷ after) before h =
     ap (λ (b : Bool). (if b then declared (after ++ event.Declare i n ∷ before) else first_variable (after ++ event.Declare i n ∷ before) i)) (told_apart j i (event.Declare i n) after before refl (IsDistinct-head same_number j (nodes_of (after ++ event.Declare i n ∷ before)) h))
     ∙ first_there i n after before (rest_once j (after ++ event.Declare i n ∷ before) h)
@@ -85,9 +76,9 @@ first_there i n (event.SecondLabel _ ∷ after) before h = first_there i n after
 first_there i n (event.Break _ ∷ after) before h = first_there i n after before h
 first_there i n (event.Vararg _ ∷ after) before h = first_there i n after before h
 
-pub declared_there : (i n : ℕ) (text before : List Event) → IsOnce text → Meets text before (event.Declare i n) → first_variable text i ≡ declared before
-declared_there i n text before once m =
-    ap (λ (h : List Event). first_variable h i) (sym m.joined) ∙ first_there i n m.after before (subst IsOnce (sym m.joined) once)
+declared_there : (i n : ℕ) (whole before : List Event) → TellsOnce whole → Meets whole before (event.Declare i n) → first_variable whole i ≡ declared before
+declared_there i n whole before once m =
+    ap (λ (h : List Event). first_variable h i) (sym m.joined) ∙ first_there i n m.after before (subst TellsOnce (sym m.joined) once)
 
 -- of a chunk in whose tree each node stands once
 pub place_there : (c : ChunkNodes) (i : ℕ) → IsEachOnce c → (x : List ℕ) (before : List Event) → Meets (history_of c) before (event.Use i x) → place_of (history_of c) i ≡ place_by (history_of c) (meaning before x)

@@ -6,7 +6,7 @@ use Rattle.lua_scope.specs.declared.event.Event.{Event}
 use Rattle.lua_scope.specs.declared.event.Event.TheVariants as event
 use Rattle.lua_scope.specs.Labels.{is_label}
 use Rattle.lua_scope.specs.History.{history, list_history, stats_history, body_history, cases_history, maybe_history, fields_history}
-use Rattle.lua_scope.specs.Once.{Meets}
+use Rattle.lua_scope.specs.Meets.{Meets}
 
 -- e stands somewhere in the text
 pub record Met (e : Event) (text : List Event) : Type 0 where

@@ -14,19 +14,19 @@ use Rattle.lua_scope.specs.declared.event.Opening.TheVariants as opening
 use Rattle.lua_scope.specs.Labels.{is_label}
 use Rattle.lua_scope.specs.History.{opens, label_in, history, list_history, stats_history, body_history, cases_history, maybe_history, fields_history}
 use Rattle.lua_scope.specs.OfChunk.{history_of}
-use Rattle.lua_scope.specs.Once.{node_of, nodes_of, IsOnce}
+use Rattle.lua_scope.proofs.TellsOnce.{node_of, nodes_of, same_number, same_itself, TellsOnce}
 
 -- ---- how often a number stands in a list
 
-abbrev hit : ℕ → ℕ → ℕ
+abbrev pub hit : ℕ → ℕ → ℕ
 hit i j = cond (j == i) 1 0
 
 -- `count_by`, but it computes at a list's first number
-abbrev hits : ℕ → List ℕ → ℕ
+abbrev pub hits : ℕ → List ℕ → ℕ
 hits i [] = 0
 hits i (j ∷ js) = hit i j + hits i js
 
-hits_count : (i : ℕ) (xs : List ℕ) → hits i xs ≡ count_by (λ j. j == i) xs
+pub hits_count : (i : ℕ) (xs : List ℕ) → hits i xs ≡ count_by (λ j. j == i) xs
 hits_count i xs = is_sum_by (hits i) (hit i) refl (λ j js. refl) xs
 
 hits_append : (i : ℕ) (xs ys : List ℕ) → hits i (xs ++ ys) ≡ hits i xs + hits i ys
@@ -34,10 +34,7 @@ hits_append i [] ys = omega arith
 hits_append i (x ∷ xs) ys = omega (arith, hits_append i xs ys)
 
 hit_itself : (i : ℕ) → hit i i ≡ 1
-hit_itself i = elim (eqb_tells i i) [
-  | inl e ↦ ap (λ (b : Bool). cond b 1 0) e.0
-  | inr e ↦ absurd (e.1 refl)
-]
+hit_itself i = ap (λ (b : Bool). cond b 1 0) (same_itself i)
 
 apart : (i : ℕ) (xs : List ℕ) → hits i xs ≤ 0 → AllByRecursion (λ j. (i == j) ≡ false) xs
 apart i [] h = tt
@@ -49,10 +46,10 @@ apart i (j ∷ js) h = (differs, apart i js (omega arith))
       | inr e ↦ e.0
     ]
 
-distinct : (xs : List ℕ) → ((i : ℕ) → hits i xs ≤ 1) → IsDistinct (λ (i j : ℕ). i == j) xs
-distinct [] h = IsDistinct-from_apart (λ (i j : ℕ). i == j) [] (λ i j d before below. absurd (omega arith))
+distinct : (xs : List ℕ) → ((i : ℕ) → hits i xs ≤ 1) → IsDistinct same_number xs
+distinct [] h = IsDistinct-from_apart same_number [] (λ i j d before below. absurd (omega arith))
 distinct (x ∷ xs) h =
-    IsDistinct-cons (λ (i j : ℕ). i == j) x xs (apart x xs (omega (arith, h x, hit_itself x))) (distinct xs (λ i. omega (arith, h i)))
+    IsDistinct-cons same_number x xs (apart x xs (omega (arith, h x, hit_itself x))) (distinct xs (λ i. omega (arith, h i)))
 
 -- ---- what a walk adds to a history
 
@@ -227,7 +224,7 @@ at_most_one : (b : Bool) → cond b 1 0 ≤ 1
 at_most_one true = omega arith
 at_most_one false = omega arith
 
-pub told_once : (c : ChunkNodes) → IsEachOnce c → IsOnce (history_of c)
+pub told_once : (c : ChunkNodes) → IsEachOnce c → TellsOnce (history_of c)
 told_once c once = distinct (nodes_of (history_of c)) few_told
   where
     few_told : (i : ℕ) → hits i (nodes_of (history_of c)) ≤ 1

@@ -8,7 +8,7 @@ pub mod FirstLabels
 pub mod Visible
 pub mod Scope
 pub mod Variables
-pub mod Once
+pub mod Meets
 pub mod Uses
 pub mod Refusals
 pub mod Resolved

@@ -6,14 +6,14 @@ use Rattle.lua_scope.specs.declared.event.Event.TheVariants as event
 use Rattle.lua_scope.specs.declared.frame.Frame.{Frame}
 use Rattle.lua_scope.specs.Scope.{scope, first_variable}
 use Rattle.lua_scope.specs.Variables.{meaning, is_function}
-use Rattle.lua_scope.specs.Once.{Meets}
+use Rattle.lua_scope.specs.Meets.{Meets}
 
 -- a Name inside the function means the variable, which was named before the function's own
-pub record UsesInside (text : List Event) (f v : ℕ) : Type 0 where
+pub record UsesInside (whole : List Event) (f v : ℕ) : Type 0 where
   pub node : ℕ
   pub name : List ℕ
   pub before : List Event
-  pub met : Meets text before (event.Use node name)
+  pub met : Meets whole before (event.Use node name)
   pub means : meaning before name ≡ Some v
   pub inside : list_any (λ (frame : Frame). is_function f frame.opening) (scope before).frames ≡ true
   pub outer : v < first_variable before f

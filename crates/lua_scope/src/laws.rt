@@ -1,12 +1,18 @@
 //! Laws of what names mean. Each function does nothing, and its contract is the law.
 
-ghost use Rattle.std.specs.Prelude.{◌≡◌, ◌⊎◌, ℕ, ◌==◌, true, List, []};
+ghost use Rattle.std.specs.Prelude.{◌≡◌, Some, ◌⊎◌, ℕ, ◌==◌, true, List, []};
 ghost use Rattle.std.specs.List.{list_any};
 ghost use Rattle.std.specs.List.Sorted.{IsStrictlyIncreasing};
 ghost use Rattle.lua_scope.specs.declared.event.Event.{Event as EventOf};
+ghost use Rattle.lua_ast.specs.declared.node.Node.{Node as NodeOf};
 ghost use Rattle.lua_ast.specs.Tree.{Tree};
+ghost use Rattle.lua_ast.specs.Decode.{ChunkNodes, Ordered, node_at};
+ghost use Rattle.lua_ast.specs.Once.{IsEachOnce};
 ghost use Rattle.lua_ast.specs.Numbers.{without_numbers};
+ghost use Rattle.lua_parser.specs.Parsing.{tree_of};
 ghost use Rattle.lua_scope.specs.History.{history};
+ghost use Rattle.lua_scope.specs.OfChunk.{history_of};
+ghost use Rattle.lua_scope.specs.Meets.{Meets, told_of};
 ghost use Rattle.lua_scope.specs.Loads.{LoadsAs, Loads, LoadFails};
 ghost use Rattle.lua_scope.specs.Refusals.{first_refusal};
 ghost use Rattle.lua_scope.specs.declared.load_error.LoadError.{LoadError as ErrorOf};
@@ -25,6 +31,15 @@ pub fn captured_where_used()
     ensures all { (h : List EventOf) (f v : ℕ) → UsesInside h f v → list_any (λ w. w == v) (captured_by h f) ≡ true }
     ensures flagged { (h : List EventOf) (v : ℕ) → is_captured h v ≡ true → (f : ℕ) × UsesInside h f v }
     ensures flags { (h : List EventOf) (f v : ℕ) → UsesInside h f v → is_captured h v ≡ true }
+{}
+
+/// The walk through a text meets each Name of its chunk, and each node that names variables.
+/// `Chunk::root` tells that the nodes are in order, `Parsed::chunk` the rest.
+pub fn nodes_are_met()
+    ensures { (text : List ℕ) (c : ChunkNodes) (i : ℕ) (n : NodeOf) (e : EventOf) →
+        Ordered c.nodes → LoadsAs text (tree_of c) → IsEachOnce c →
+        node_at c.nodes i ≡ Some n → told_of i n ≡ Some e →
+        (before : List EventOf) × Meets (history_of c) before e }
 {}
 
 /// A text is refused by its tree alone: the numbers of the nodes don't matter.

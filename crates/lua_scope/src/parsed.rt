@@ -10,7 +10,7 @@ ghost use Rattle.lua_scope.specs.declared.event.Event.{Event as EventOf};
 ghost use Rattle.lua_scope.specs.declared.event.Event.TheVariants as event;
 ghost use Rattle.lua_scope.specs.Scope.{declared, first_variable};
 ghost use Rattle.lua_scope.specs.Variables.{meaning, place_by, place_of, is_captured as is_captured_in, captured_by};
-ghost use Rattle.lua_scope.specs.Once.{Meets};
+ghost use Rattle.lua_scope.specs.Meets.{Meets};
 
 use crate::load_error::{LoadError, of_lex, of_parse, of_scope};
 use crate::place::Place;

@@ -195,6 +195,7 @@ fn labels_at_the_end_lie_outside(rt: HostRuntime) -> Result<(), Fail> {
 
 #[test]
 fn laws_can_be_called() {
+    crate::laws::nodes_are_met();
     crate::laws::captured_where_used();
     crate::laws::captured_variables_rise();
     crate::laws::numbers_refuse_nothing();
