@@ -11,11 +11,7 @@ use zp_names::{Name, Verdict};
 use zp_tree::{Datasets, HeadKind, Item, exists, is_full, named};
 
 /// Whether a file system of this name can be created.
-pub(crate) fn check<T: Datasets>(
-    alloc: Global,
-    tree: &T,
-    name: &Name,
-) -> Result<Verdict, NoMemory>
+pub(crate) fn check<T: Datasets>(alloc: Global, tree: &T, name: &Name) -> Result<Verdict, NoMemory>
     requires { IsWellFormed (T.tree tree.now) }
     ensures { IfOk result (λ verdict. verdict ≡ create_check (T.tree tree.now) name.now) }
 {

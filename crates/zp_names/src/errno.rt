@@ -25,5 +25,4 @@ pub fn are_numbers_of_linux()
     ensures eexist { EEXIST ≡ eexist }
     ensures einval { EINVAL ≡ einval }
     ensures enospc { ENOSPC ≡ enospc }
-{
-}
+{}
