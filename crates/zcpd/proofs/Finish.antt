@@ -3,7 +3,7 @@ use Rattle.std.proofs.Common.{◌≡◌, ℕ, ◌<◌, ◌≤◌, zero, suc, ◌
 use Rattle.std.proofs.lemmas.Grind.{common_steps}
 use Rattle.zp_tree.specs.Tree.{Tree}
 use Rattle.zp_tree.specs.Kept.{Kept}
-use Rattle.zp_tree.specs.Create.{opening}
+use Rattle.zp_tree.specs.NewPool.{new_pool}
 use Rattle.zp_tree.specs.declared.item.Item.{Item}
 use Rattle.zp_calls.specs.declared.call.Call.{Call}
 use Rattle.zp_calls.specs.declared.reply.Reply.{Reply}
@@ -37,21 +37,21 @@ pub record Finished (doc : Document) (run : Run Kept) : Type 0 where
   pub legal_run : IsLegalRun doc doc.schedule history
   pub follows : Follows tree_of (origin_of doc) doc.sessions run history
 
-pub finished : (doc : Document) (run : Run Kept) (t : Tree) (sessions : List (List Call)) (schedule : List Event) (h : List (Entry Call)) → t ≡ opening doc.pool → sessions ≡ doc.sessions → schedule ≡ doc.schedule →
+pub finished : (doc : Document) (run : Run Kept) (t : Tree) (sessions : List (List Call)) (schedule : List Event) (h : List (Entry Call)) → t ≡ new_pool doc.pool → sessions ≡ doc.sessions → schedule ≡ doc.schedule →
     IsHistoryOf (at_begin t sessions) (call_in sessions) schedule h → Follows tree_of (at_begin t sessions) sessions run h → Finished doc run
 finished doc run t sessions schedule h root calls events is follows =
-    let is1 : IsHistoryOf (at_begin (opening doc.pool) sessions) (call_in sessions) schedule h = subst (λ (u : Tree). IsHistoryOf (at_begin u sessions) (call_in sessions) schedule h) root is in
-    let is2 : IsHistoryOf (at_begin (opening doc.pool) doc.sessions) (call_in doc.sessions) schedule h = subst (λ (ss : List (List Call)). IsHistoryOf (at_begin (opening doc.pool) ss) (call_in ss) schedule h) calls is1 in
-    let is3 : IsHistoryOf (origin_of doc) (call_in doc.sessions) doc.schedule h = subst (λ (es : List Event). IsHistoryOf (at_begin (opening doc.pool) doc.sessions) (call_in doc.sessions) es h) events is2 in
-    let f1 : Follows tree_of (at_begin (opening doc.pool) sessions) sessions run h = subst (λ (u : Tree). Follows tree_of (at_begin u sessions) sessions run h) root follows in
-    let f2 : Follows tree_of (origin_of doc) doc.sessions run h = subst (λ (ss : List (List Call)). Follows tree_of (at_begin (opening doc.pool) ss) ss run h) calls f1 in
+    let is1 : IsHistoryOf (at_begin (new_pool doc.pool) sessions) (call_in sessions) schedule h = subst (λ (u : Tree). IsHistoryOf (at_begin u sessions) (call_in sessions) schedule h) root is in
+    let is2 : IsHistoryOf (at_begin (new_pool doc.pool) doc.sessions) (call_in doc.sessions) schedule h = subst (λ (ss : List (List Call)). IsHistoryOf (at_begin (new_pool doc.pool) ss) (call_in ss) schedule h) calls is1 in
+    let is3 : IsHistoryOf (origin_of doc) (call_in doc.sessions) doc.schedule h = subst (λ (es : List Event). IsHistoryOf (at_begin (new_pool doc.pool) doc.sessions) (call_in doc.sessions) es h) events is2 in
+    let f1 : Follows tree_of (at_begin (new_pool doc.pool) sessions) sessions run h = subst (λ (u : Tree). Follows tree_of (at_begin u sessions) sessions run h) root follows in
+    let f2 : Follows tree_of (origin_of doc) doc.sessions run h = subst (λ (ss : List (List Call)). Follows tree_of (at_begin (new_pool doc.pool) ss) ss run h) calls f1 in
     record { history = h; legal_run = record { history = is3; legal = f2.stands.legal }; follows = f2 }
 
-pub stopped : (doc : Document) (t : Tree) (sessions : List (List Call)) (schedule : List Event) (i : ℕ) → t ≡ opening doc.pool → sessions ≡ doc.sessions → schedule ≡ doc.schedule →
+pub stopped : (doc : Document) (t : Tree) (sessions : List (List Call)) (schedule : List Event) (i : ℕ) → t ≡ new_pool doc.pool → sessions ≡ doc.sessions → schedule ≡ doc.schedule →
     StopsAt (at_begin t sessions) sessions schedule i → StopsAt (origin_of doc) doc.sessions doc.schedule i
 stopped doc t sessions schedule i root calls events stops =
-    let s1 : StopsAt (at_begin (opening doc.pool) sessions) sessions schedule i = subst (λ (u : Tree). StopsAt (at_begin u sessions) sessions schedule i) root stops in
-    let s2 : StopsAt (origin_of doc) doc.sessions schedule i = subst (λ (ss : List (List Call)). StopsAt (at_begin (opening doc.pool) ss) ss schedule i) calls s1 in
+    let s1 : StopsAt (at_begin (new_pool doc.pool) sessions) sessions schedule i = subst (λ (u : Tree). StopsAt (at_begin u sessions) sessions schedule i) root stops in
+    let s2 : StopsAt (origin_of doc) doc.sessions schedule i = subst (λ (ss : List (List Call)). StopsAt (at_begin (new_pool doc.pool) ss) ss schedule i) calls s1 in
     subst (λ (es : List Event). StopsAt (origin_of doc) doc.sessions es i) events s2
 
 -- the parts of the output

@@ -1,6 +1,5 @@
 pub mod Values
 pub mod Documents
-pub mod CreateLaw
 pub mod Given
 pub mod Steps
 pub mod Printable

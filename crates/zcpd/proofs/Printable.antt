@@ -1,15 +1,10 @@
 -- The replies of a pool can be printed.
 use Rattle.std.proofs.Common.{◌≡◌, ℕ, zero, suc, ◌+◌, ◌==◌, List, [], ◌∷◌, ◌++◌, Bool, true, false, cond, All, map, refl, sym, subst}
 use Rattle.std.specs.List.{range_with_len}
-use Rattle.std.specs.Str.{IsUtf8}
 use Rattle.std.proofs.lemmas.List.Elements.{All-append, All-cons, All-nil, All-take}
-use Rattle.zp_names.specs.declared.command.Command.TheVariants as command
 use Rattle.zp_names.specs.declared.command.Query.TheVariants as query
-use Rattle.zp_names.specs.declared.verdict.Verdict.{Verdict}
 use Rattle.zp_tree.specs.Tree.{Tree}
-use Rattle.zp_tree.specs.Rows.{first_row}
-use Rattle.zp_tree.specs.Create.{create_rows}
-use Rattle.zp_tree.specs.Commands.{check_of}
+use Rattle.zp_tree.proofs.VerdictTexts.{details-utf8}
 use Rattle.zp_calls.specs.declared.call.Call.{Call}
 use Rattle.zp_calls.specs.declared.call.Call.TheVariants as call
 use Rattle.zp_calls.specs.declared.reply.Reply.{Reply}
@@ -19,25 +14,9 @@ use Rattle.txg_core.specs.declared.event.Entry.{Entry}
 use Rattle.txg_core.specs.Serial.{Decision, serial, next, world_after, replies_of, given}
 use Rattle.zcpd.specs.Pool.{does, pool_rules}
 
--- no row has details
-abbrev Plain : List (Bool × Verdict) → Type 0
-Plain [] = Unit {0}
-Plain (r ∷ rs) = (r.1.details ≡ []) × Plain rs
-
-first-plain : (rows : List (Bool × Verdict)) → Plain rows → (first_row rows).details ≡ []
-first-plain [] p = refl
-first-plain (r ∷ rs) p = either r.0 (first-plain rs p.1)
-  where
-    either : (b : Bool) → (first_row rs).details ≡ [] → (cond b r.1 (first_row rs)).details ≡ []
-    either true e = p.0
-    either false e = e
-
-no-details : (t : Tree) (c : Rattle.zp_names.specs.declared.command.Command.Command) → (check_of t c).details ≡ []
-no-details t (command.Create name) = first-plain (create_rows t name) (refl, (refl, (refl, (refl, (refl, tt)))))
-
 -- the reply to a call
 does-printable : (t : Tree) (c : Call) (txg : ℕ) → IsPrintable (does t c txg).0
-does-printable t (call.Command c) txg = subst (λ (ds : List (List ℕ)). All IsUtf8 ds) (sym (no-details t c)) (All-nil IsUtf8)
+does-printable t (call.Command c) txg = details-utf8 t c
 does-printable t (call.Query (query.Exists name)) txg = tt
 
 -- the replies to a session's decisions

@@ -4,7 +4,7 @@ use Rattle.serde_json.specs.Data.{Data, null, string, object, Members, member, n
 use Rattle.serde_json.specs.Written.{compact_text}
 use Rattle.lua_scope.specs.Loads.{Loads, LoadFails}
 use Rattle.lua_scope.specs.declared.load_error.LoadError.{LoadError}
-use Rattle.zp_tree.specs.Create.{opening}
+use Rattle.zp_tree.specs.NewPool.{new_pool}
 use Rattle.zc_reply.specs.Journal.{whole}
 use Rattle.zcpd.specs.declared.document.Document.{Document}
 use Rattle.zcpd.specs.declared.document.program.Program.{Program}
@@ -51,4 +51,4 @@ check_text programs records = compact_text (check_data programs records) ++ 10 �
 pub record IsCheckOf (document : Document) (text : List ℕ) : Type 0 where
   pub programs : Data
   pub verdicts : AreVerdicts document.programs programs
-  pub text_is : text ≡ check_text programs (length (opening document.pool).records)
+  pub text_is : text ≡ check_text programs (length (new_pool document.pool).records)

@@ -3,7 +3,7 @@ use Rattle.std.specs.Prelude.{◌≡◌, ◌<◌, ◌+◌, ◌⊎◌, ℕ, List,
 use Rattle.std.specs.Io.KnownBytes.{Appends, IsAtEnd}
 use Rattle.zc_io.specs.Reading.{TakesFirst}
 use Rattle.zp_tree.specs.Tree.{Tree}
-use Rattle.zp_tree.specs.Create.{opening}
+use Rattle.zp_tree.specs.NewPool.{new_pool}
 use Rattle.zp_calls.specs.declared.call.Call.{Call}
 use Rattle.zp_calls.specs.declared.reply.Reply.{Reply}
 use Rattle.zc_reply.specs.Output.{output_text}
@@ -30,7 +30,7 @@ use Rattle.zcpd.specs.declared.status.Status.TheVariants as status
 
 -- where a run of the document begins: the root alone, and the number of calls of each session
 abbrev pub origin_of : Document → Origin Tree Call Reply
-origin_of doc = record { rules = pool_rules; world = opening doc.pool; counts = map length doc.sessions }
+origin_of doc = record { rules = pool_rules; world = new_pool doc.pool; counts = map length doc.sessions }
 
 -- these events are a legal run of the document: the history that they are, where each session makes its calls in
 -- their order, is legal

@@ -5,8 +5,7 @@ use Rattle.zp_names.specs.declared.command.Command.{Command}
 use Rattle.zp_names.specs.declared.command.Query.{Query}
 use Rattle.zp_names.specs.declared.command.Query.TheVariants as query
 use Rattle.zp_names.specs.declared.verdict.Verdict.{Verdict}
-use Rattle.zp_tree.specs.Tree.{Tree}
-use Rattle.zp_tree.specs.Create.{exists}
+use Rattle.zp_tree.specs.Tree.{Tree, exists}
 use Rattle.zp_tree.specs.Commands.{check_of, change_of}
 use Rattle.txg_core.specs.Rules.{Rules, Meaning}
 use Rattle.txg_core.specs.declared.object.Kind.{Kind}
@@ -22,7 +21,7 @@ answer_of t (query.Exists name) = reply.Exists (exists t name)
 
 -- the tree after a command that has this verdict
 abbrev pub tree_after : Tree → Verdict → Command → ℕ → Tree
-tree_after t v c txg = if v.errno == 0 then change_of t c txg else t
+tree_after t v c txg = if v.errno == 0 then change_of t c txg 0 else t
 
 -- doing a call in a transaction group: a command is its check, and its change where the errno is 0
 abbrev pub does : Tree → Call → ℕ → Reply × Tree

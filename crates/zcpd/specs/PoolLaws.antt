@@ -18,7 +18,7 @@ refused true v t u r e = cc
 refused false v t u r e = let same : reply.Errno v ≡ r = cc in ap (λ (x : Reply). (x, t)) same
 
 refuses : (t : Tree) (c : Call) (r : Reply) → open_check t c ≡ Some r → (txg : ℕ) → does t c txg ≡ (r, t)
-refuses t (call.Command c) r e txg = refused ((check_of t c).errno == 0) (check_of t c) t (change_of t c txg) r e
+refuses t (call.Command c) r e txg = refused ((check_of t c).errno == 0) (check_of t c) t (change_of t c txg 0) r e
 refuses t (call.Query q) r e txg = cc
 
 asks : (t : Tree) (c : Call) → kind_of c ≡ Query → (txg : ℕ) → does t c txg ≡ ((does t c 0).0, t)

@@ -2,7 +2,6 @@
 #![tactic(auto)]
 
 mod check;
-mod create;
 mod document;
 mod load_error;
 mod offline;

@@ -1,18 +1,17 @@
 //! The pool as the object of the core.
 
-ghost use Rattle.std.specs.Prelude.{◌≡◌, IfOk, OnOk, OnErr};
+ghost use Rattle.std.specs.Prelude.{◌≡◌};
 ghost use Rattle.zp_tree.specs.WellFormed.{IsWellFormed};
-ghost use Rattle.zp_tree.specs.Commands.{check_of, change_of};
-ghost use Rattle.zp_tree.specs.Rows.{passed};
 ghost use Rattle.zcpd.specs.Pool.{answer_of};
 
-use crate::create::{apply_create, check_create};
 use std::alloc::Global;
 use std::marker::Model;
 use txg_core::{Kind, SerialObject, Stated};
 use zc_io::NoMemory;
 use zp_calls::{Call, Reply};
-use zp_names::{Command, Query, Verdict};
+use zp_changes::apply;
+use zp_checks::check;
+use zp_names::Query;
 use zp_tree::{Datasets, exists};
 
 /// A pool, over any kind of tree. The tree is well formed.
@@ -48,32 +47,6 @@ impl<T: Datasets> Pool<T> {
         ensures well { IsWellFormed (T.tree self.now) }
     {
         &self.tree
-    }
-}
-
-fn check<T: Datasets>(alloc: Global, tree: &T, command: &Command) -> Result<Verdict, NoMemory>
-    requires { IsWellFormed (T.tree tree.now) }
-    ensures { IfOk result (λ verdict. verdict ≡ check_of (T.tree tree.now) command.now) }
-{
-    match command {
-        Command::Create { name } => check_create(alloc, tree, name),
-    }
-}
-
-fn apply<T: Datasets>(
-    alloc: Global,
-    tree: &mut T,
-    command: &Command,
-    txg: u64,
-) -> Result<(), NoMemory>
-    requires well { IsWellFormed (T.tree tree.old) }
-    requires passed { check_of (T.tree tree.old) command.now ≡ passed }
-    ensures ok { OnOk result (T.tree tree.new ≡ change_of (T.tree tree.old) command.now txg) }
-    ensures well { IsWellFormed (T.tree tree.new) }
-    ensures err { OnErr result (T.tree tree.new ≡ T.tree tree.old) }
-{
-    match command {
-        Command::Create { name } => apply_create(alloc, tree, name, txg),
     }
 }
 
@@ -137,7 +110,7 @@ impl<T: Datasets> SerialObject for Pool<T> {
             Call::Command(command) => {
                 let verdict = check(alloc, &self.tree, command)?;
                 if verdict.errno == 0 {
-                    apply(alloc, &mut self.tree, command, txg)?;
+                    apply(alloc, &mut self.tree, command, txg, 0)?;
                 }
                 Ok(Reply::Errno(verdict))
             }

@@ -1,7 +1,13 @@
-//! The error numbers of Linux that a check can answer.
+//! The error numbers of Linux that a check can answer: errno(3).
+
+ghost use Rattle.std.specs.Prelude.{◌≡◌};
+ghost use Rattle.zp_names.specs.ErrorNumbers.{enoent, ebusy, eexist, einval, enospc};
 
 /// No such dataset.
 pub const ENOENT: u32 = 2;
+
+/// The dataset is in use.
+pub const EBUSY: u32 = 16;
 
 /// There is such a dataset already.
 pub const EEXIST: u32 = 17;
@@ -11,3 +17,12 @@ pub const EINVAL: u32 = 22;
 
 /// A limit would be passed.
 pub const ENOSPC: u32 = 28;
+
+/// A law: the constants are Linux's numbers.
+pub fn are_numbers_of_linux()
+    ensures enoent { ENOENT ≡ enoent }
+    ensures ebusy { EBUSY ≡ ebusy }
+    ensures eexist { EEXIST ≡ eexist }
+    ensures einval { EINVAL ≡ einval }
+    ensures enospc { ENOSPC ≡ enospc }
+{}

@@ -4,4 +4,7 @@ pub mod Rising
 pub mod Edits
 pub mod FullNames
 pub mod Adding
-pub mod Opening
+pub mod NewPoolLaw
+pub mod Clear
+pub mod Found
+pub mod VerdictTexts

@@ -1,4 +1,4 @@
--- Every command and every query: a line each.
+-- What a command's check says and what its change does: a line each.
 use Rattle.std.specs.Prelude.{ℕ}
 use Rattle.zp_names.specs.declared.command.Command.{Command}
 use Rattle.zp_names.specs.declared.command.Command.TheVariants as command
@@ -10,6 +10,6 @@ use Rattle.zp_tree.specs.Create.{create_check, create_change}
 abbrev pub check_of : Tree → Command → Verdict
 check_of t (command.Create name) = create_check t name
 
--- the tree after a command, in a transaction group
-abbrev pub change_of : Tree → Command → ℕ → Tree
-change_of t (command.Create name) txg = create_change t name txg
+-- the tree after a command, in a transaction group, at a moment in seconds
+abbrev pub change_of : Tree → Command → ℕ → ℕ → Tree
+change_of t (command.Create name) txg now = create_change t name txg

@@ -1,6 +1,7 @@
 -- The tree of a pool: its records in order of birth, and the id that the next record takes.
 -- Source: zfs(8), "ZFS File System Hierarchy" and "Snapshots"; ids in order of birth are this project's own.
-use Rattle.std.specs.Prelude.{ℕ, ◌+◌, ◌==◌, ◌≡◌, ◌≤◌, Bool, true, false, cond, List, [], ◌∷◌, ◌++◌, bytes_eq, Option, Some, None, option_map, option_and_then, find, MatchOption}
+use Rattle.std.specs.Prelude.{ℕ, ◌+◌, ◌-◌, ◌^◌, ◌==◌, ◌||◌, ◌≡◌, ◌≤◌, nat_le, Bool, true, false, cond, List, [], ◌∷◌, ◌++◌, length, bytes_eq, Option, Some, None, is_some, option_map, option_and_then, find, MatchOption}
+use Rattle.zp_names.specs.NameParts.{parent_of}
 use Rattle.zp_tree.specs.declared.item.Item.{Item}
 use Rattle.zp_tree.specs.declared.item.Item.TheVariants as item
 use Rattle.zp_tree.specs.declared.item.Head.{Head}
@@ -79,3 +80,27 @@ named rs name = find (is_called rs name) rs
 -- what a look-up by name answers: none where no record has the name, else the id of one that has it
 abbrev pub Finds : List Item → List ℕ → Option ℕ → Type 0
 Finds rs name found = MatchOption found (named rs name ≡ None) (λ i. (r : Item) × (at rs i ≡ Some r) × (is_called rs name r ≡ true))
+
+-- some record has this full name
+abbrev pub exists : Tree → List ℕ → Bool
+exists t name = is_some (named t.records name)
+
+-- the head of this name
+abbrev pub head_named : Tree → List ℕ → Option Head
+head_named t name = option_and_then as_head (named t.records name)
+
+-- the head that the name would stand below
+abbrev pub parent_in : Tree → List ℕ → Option Head
+parent_in t name = option_and_then (head_named t) (parent_of name)
+
+-- how many records a tree has at most; this limit is this project's own
+abbrev pub most_records : ℕ
+most_records = 100000
+
+-- the tree takes no further record
+abbrev pub is_full : Tree → Bool
+is_full t = nat_le most_records (length t.records) || t.next == 2 ^ 64 - 1
+
+-- the tree with a new record, which goes last
+abbrev pub added : Tree → Item → Tree
+added t x = record { records = t.records ++ x ∷ []; next = t.next + 1 }

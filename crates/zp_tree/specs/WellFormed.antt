@@ -14,7 +14,7 @@ use Rattle.zp_tree.specs.declared.item.Head.{Head}
 use Rattle.zp_tree.specs.declared.item.Snapshot.{Snapshot}
 use Rattle.zp_tree.specs.declared.item.Bookmark.{Bookmark}
 use Rattle.zp_tree.specs.declared.item.Hold.{Hold}
-use Rattle.zp_tree.specs.Tree.{Tree, at, as_head, as_snapshot, as_bookmark, Rises}
+use Rattle.zp_tree.specs.Tree.{Tree, at, as_head, as_snapshot, as_bookmark, Rises, most_records}
 
 -- what is at each id
 abbrev pub Look : Type 0
@@ -100,9 +100,6 @@ abbrev pub user_settings : Item → ℕ
 user_settings (item.Head d) = user_count d.settings
 user_settings (item.Snap s) = user_count s.settings
 user_settings (item.Mark m) = 0
-
-abbrev pub most_records : ℕ
-most_records = 100000
 
 abbrev pub most_user_settings : ℕ
 most_user_settings = 20000

@@ -1,8 +1,7 @@
 //! What a tree of datasets promises, whatever keeps it.
 
 ghost use Rattle.std.specs.Prelude.{◌≡◌, ℕ, ◌+◌, ◌<◌, ◌≤◌, ◌^◌, length, IsSome, OnOk, IfOk, option_map};
-ghost use Rattle.zp_tree.specs.Tree.{Tree, at, id_of, put, without, Finds, Rises};
-ghost use Rattle.zp_tree.specs.Create.{added};
+ghost use Rattle.zp_tree.specs.Tree.{Tree, at, id_of, put, without, Finds, Rises, added};
 
 use crate::Item;
 use std::alloc::Global;

@@ -1,11 +1,10 @@
 //! Looking records up by name.
 
 ghost use Rattle.std.specs.Prelude.{◌≡◌, option_map};
-ghost use Rattle.zp_tree.specs.Tree.{named};
+ghost use Rattle.zp_tree.specs.Tree.{named, exists, is_full};
 ghost use Rattle.zp_tree.specs.WellFormed.{IsWellFormed};
-ghost use Rattle.zp_tree.specs.Create.{exists};
 
-use crate::{Datasets, Item};
+use crate::{Datasets, Item, MOST_RECORDS};
 use zp_names::Name;
 
 /// The record with this full name; none where there is none.
@@ -22,4 +21,11 @@ pub fn exists<T: Datasets>(tree: &T, name: &Name) -> bool
     ensures { result ≡ exists (T.tree tree.now) name.now }
 {
     tree.find(name).is_some()
+}
+
+/// Whether the tree takes no further record.
+pub fn is_full<T: Datasets>(tree: &T) -> bool
+    ensures { result ≡ is_full (T.tree tree.now) }
+{
+    tree.len() >= MOST_RECORDS || tree.next_id() == u64::MAX
 }

@@ -3,7 +3,7 @@
 ghost use Rattle.std.specs.Prelude.{◌≡◌, ◌≤◌, ◌-◌, ◌++◌, ◌∷◌, true, bytes_eq, option_map, IfOk, IsSome, position, vec_len, vec_capacity};
 ghost use Rattle.zp_names.specs.NameParts.{is_pool};
 ghost use Rattle.zp_tree.specs.Tree.{at, has_id, id_of, put, without, head_name, is_called, named};
-ghost use Rattle.zp_tree.specs.Create.{opening};
+ghost use Rattle.zp_tree.specs.NewPool.{new_pool};
 ghost use Rattle.zp_tree.specs.WellFormed.{IsWellFormed};
 
 use crate::{Datasets, Head, HeadKind, Item};
@@ -36,7 +36,7 @@ impl PlainTree {
     /// The tree of a new pool: its root alone, with id 1.
     pub fn new(alloc: Global, pool: &Name) -> Result<PlainTree, NoMemory>
         requires { is_pool pool.now ≡ true }
-        ensures tree { IfOk result (λ t. t.tree ≡ opening pool.now) }
+        ensures tree { IfOk result (λ t. t.tree ≡ new_pool pool.now) }
         ensures well { IfOk result (λ t. IsWellFormed t.tree) }
     {
         let root = Head {

@@ -1,8 +1,8 @@
 use Rattle.std.proofs.Common.{◌≡◌, sym, subst, rules}
 use Rattle.zp_tree.specs.WellFormed.{IsWellFormed}
 use Rattle.zp_tree.specs.Create.{create_change}
-use Rattle.zcpd.proofs.CreateLaw.{create-well}
-use Rattle.zcpd.proofs.create.apply_create.Goals as goal
+use Rattle.zp_changes.proofs.CreateLaw.{create-well}
+use Rattle.zp_changes.proofs.create.apply.Goals as goal
 
 pub returns-clause-well : goal.returns-clause-well
 returns-clause-well g c =

@@ -10,7 +10,7 @@ use Rattle.zp_tree.specs.declared.item.Item.TheVariants as item
 use Rattle.zp_tree.specs.declared.item.Head.{Head}
 use Rattle.zp_tree.specs.declared.item.HeadKind.TheVariants.{Filesystem}
 use Rattle.zp_tree.specs.Tree.{as_head, as_snapshot, as_bookmark, at, id_of}
-use Rattle.zp_tree.specs.Create.{opening}
+use Rattle.zp_tree.specs.NewPool.{new_pool}
 use Rattle.zp_tree.specs.WellFormed.{head_in, IsRecord, IsWellFormed}
 
 -- a text without separators is without marks
@@ -63,8 +63,8 @@ none-else {A} part d i a none h = go (at (item.Head d ∷ []) i) refl h
     go (Some r) f g = let o = only (item.Head d) i r f in let gone : None ≡ Some a = sym none ∙ ap part o.record_is ∙ g in cc
 
 -- the root alone is a well-formed tree
-pub opening-well : (pool : List ℕ) → is_valid_name pool ≡ true → is_pool pool ≡ true → IsWellFormed (opening pool)
-opening-well pool valid alone = record {
+pub new-pool-well : (pool : List ℕ) → is_valid_name pool ≡ true → is_pool pool ≡ true → IsWellFormed (new_pool pool)
+new-pool-well pool valid alone = record {
   rises = (omega arith, omega arith);
   agrees = record {
     records = λ i r h. subst IsRecord (only x i r h).record_is (record { name = valid; form = unseparated pool alone; settings = no_settings; size = λ v. cc });

@@ -1,0 +1,35 @@
+//! The changes of the commands: what a command that passed its check makes of the tree.
+#![tactic(auto)]
+
+mod create;
+
+ghost use Rattle.std.specs.Prelude.{◌≡◌, OnOk, OnErr};
+ghost use Rattle.zp_tree.specs.WellFormed.{IsWellFormed};
+ghost use Rattle.zp_tree.specs.Commands.{check_of, change_of};
+ghost use Rattle.zp_tree.specs.Rows.{passed};
+
+use std::alloc::Global;
+use zc_io::NoMemory;
+use zp_names::Command;
+use zp_tree::Datasets;
+
+/// Does a command in a transaction group, at a moment in seconds. All memory is taken first, so that the tree is
+/// unchanged after want of memory. The tree stays well formed.
+pub fn apply<T: Datasets>(
+    alloc: Global,
+    tree: &mut T,
+    command: &Command,
+    txg: u64,
+    now: u64,
+) -> Result<(), NoMemory>
+    requires well { IsWellFormed (T.tree tree.old) }
+    requires passed { check_of (T.tree tree.old) command.now ≡ passed }
+    ensures ok { OnOk result (T.tree tree.new ≡ change_of (T.tree tree.old) command.now txg now) }
+    ensures well { IsWellFormed (T.tree tree.new) }
+    ensures err { OnErr result (T.tree tree.new ≡ T.tree tree.old) }
+{
+    let _ = now;
+    match command {
+        Command::Create { name } => create::apply(alloc, tree, name, txg),
+    }
+}

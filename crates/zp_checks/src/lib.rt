@@ -1,0 +1,26 @@
+//! The checks of the commands: may a command be done on this tree, and if not, why.
+#![tactic(auto)]
+
+mod create;
+
+ghost use Rattle.std.specs.Prelude.{◌≡◌, IfOk};
+ghost use Rattle.zp_tree.specs.WellFormed.{IsWellFormed};
+ghost use Rattle.zp_tree.specs.Commands.{check_of};
+
+use std::alloc::Global;
+use zc_io::NoMemory;
+use zp_names::{Command, Verdict};
+use zp_tree::Datasets;
+
+/// The verdict on a command: the first row of its check that holds. The tree stays as it is.
+pub fn check<T: Datasets>(alloc: Global, tree: &T, command: &Command) -> Result<Verdict, NoMemory>
+    requires { IsWellFormed (T.tree tree.now) }
+    ensures { IfOk result (λ verdict. verdict ≡ check_of (T.tree tree.now) command.now) }
+{
+    match command {
+        Command::Create { name } => create::check(alloc, tree, name),
+    }
+}
+
+#[cfg(test)]
+mod tests;

@@ -1,0 +1,31 @@
+-- The details of a verdict can be printed.
+use Rattle.std.proofs.Common.{◌≡◌, ℕ, List, [], ◌∷◌, Bool, true, false, cond, All, refl, sym, subst}
+use Rattle.std.specs.Str.{IsUtf8}
+use Rattle.std.proofs.lemmas.List.Elements.{All-nil}
+use Rattle.zp_names.specs.declared.command.Command.{Command}
+use Rattle.zp_names.specs.declared.command.Command.TheVariants as command
+use Rattle.zp_names.specs.declared.verdict.Verdict.{Verdict}
+use Rattle.zp_tree.specs.Tree.{Tree}
+use Rattle.zp_tree.specs.Rows.{first_row}
+use Rattle.zp_tree.specs.Create.{create_rows}
+use Rattle.zp_tree.specs.Commands.{check_of}
+
+-- no row has details
+abbrev Plain : List (Bool × Verdict) → Type 0
+Plain [] = Unit {0}
+Plain (r ∷ rs) = (r.1.details ≡ []) × Plain rs
+
+first-plain : (rows : List (Bool × Verdict)) → Plain rows → (first_row rows).details ≡ []
+first-plain [] p = refl
+first-plain (r ∷ rs) p = either r.0 (first-plain rs p.1)
+  where
+    either : (b : Bool) → (first_row rs).details ≡ [] → (cond b r.1 (first_row rs)).details ≡ []
+    either true e = p.0
+    either false e = e
+
+no-details : (t : Tree) (c : Command) → (check_of t c).details ≡ []
+no-details t (command.Create name) = first-plain (create_rows t name) (refl, (refl, (refl, (refl, (refl, tt)))))
+
+-- the details of a verdict are UTF-8
+pub details-utf8 : (t : Tree) (c : Command) → All IsUtf8 (check_of t c).details
+details-utf8 t c = subst (λ (ds : List (List ℕ)). All IsUtf8 ds) (sym (no-details t c)) (All-nil IsUtf8)
