@@ -9,7 +9,7 @@ use Rattle.lua_ast.specs.declared.node.LogicOp.TheVariants as logic_op
 use Rattle.lua_ast.specs.Tree as tree
 use Rattle.lua_ast.specs.Tree.{Tree, line_of}
 use Rattle.lua_grammar.specs.Kinds as kind
-use Rattle.lua_grammar.specs.Signs.{Mark, Place, Sign, sign}
+use Rattle.lua_grammar.specs.Signs.{Terminal, Attributes, Sign, sign}
 use Rattle.lua_grammar.specs.Operators.{Operator, value, logic, operator_of, unary_of, level, left_of, right_of, joined, constant_of}
 use Rattle.lua_grammar.specs.Grammar.{Room, is_prefix, ends_open, Exp, constant, vararg, prefix, table, function, unary, binary, Prefix, name, paren, dot, index, call, method, Table, braces, Body, body}
 use Rattle.lua_grammar.specs.Pushdown.{Frame, InUnary, InBinary, State, Need, Have, depth, level_of, room, opened, begin_unary, begin_by, begin, operator, suffix, rest, steps}
@@ -66,7 +66,7 @@ joined_line (value op) l r = refl
 joined_line (logic op) l r = refl
 
 -- What goes on a prefix.
-abbrev pub is_suffix : Mark → Bool
+abbrev pub is_suffix : Terminal → Bool
 is_suffix kind.Dot = true
 is_suffix kind.Colon = true
 is_suffix kind.OpenBracket = true
@@ -80,22 +80,22 @@ FollowsBy n None = Unit {0}
 FollowsBy n (Some op) = left_of op ≤ n
 
 -- May come after an expression of the level n, where b says whether it ends in a prefix.
-abbrev pub FollowsMark : ℕ → Bool → Mark → Type 0
-FollowsMark n b m = FollowsBy n (operator_of m) × (b ≡ true → is_suffix m ≡ false)
+abbrev pub FollowsTerminal : ℕ → Bool → Terminal → Type 0
+FollowsTerminal n b m = FollowsBy n (operator_of m) × (b ≡ true → is_suffix m ≡ false)
 
 abbrev pub Follows : ℕ → Bool → List Sign → Type 0
 Follows n b [] = ⊥
-Follows n b (sign m i ∷ y) = FollowsMark n b m
+Follows n b (sign m i ∷ y) = FollowsTerminal n b m
 
 pub room_true : (d : ℕ) (c : Bool) → Room d c → room d c ≡ true
 room_true d true h = le-leb d 200 h
 room_true d false h = refl
 
-pub opened_in : (d : ℕ) (k : List Frame) (i : Place) (s : State) → d ≡ depth k → Room (suc d) i.counted → opened k i s ≡ Some s
+pub opened_in : (d : ℕ) (k : List Frame) (i : Attributes) (s : State) → d ≡ depth k → Room (suc d) i.counted → opened k i s ≡ Some s
 opened_in d k i s e r = ap (λ b. cond b (Some s) None) (room_true (suc (depth k)) i.counted (subst (λ d. Room (suc d) i.counted) e r))
 
 -- A step over a token that opens a level.
-pub open_step : (x : List Sign) (k : List Frame) (i : Place) (s : State) (d : ℕ) → d ≡ depth k → Room (suc d) i.counted → steps x (opened k i s) ≡ steps x (Some s)
+pub open_step : (x : List Sign) (k : List Frame) (i : Attributes) (s : State) (d : ℕ) → d ≡ depth k → Room (suc d) i.counted → steps x (opened k i s) ≡ steps x (Some s)
 open_step x k i s d e r = ap (steps x) (opened_in d k i s e r)
 
 both : (a b : Bool) → a ≡ true → b ≡ true → (a && b) ≡ true
@@ -145,7 +145,7 @@ leave_by : (b c : Bool) (s o : Option State) → b ≡ false → cond (b && c) s
 leave_by false c s o h = refl
 leave_by true c s o h = cc
 
-leave_operator : (q : ℕ) (t : Tree) (k : List Frame) (i : Place) (o : Option Operator) (n : ℕ) (otherwise : Option State) →
+leave_operator : (q : ℕ) (t : Tree) (k : List Frame) (i : Attributes) (o : Option Operator) (n : ℕ) (otherwise : Option State) →
     FollowsBy n o → ((op : Operator) → left_of op ≤ n → level op < q) → operator q t k i o otherwise ≡ otherwise
 leave_operator q t k i None n otherwise f h = refl
 leave_operator q t k i (Some op) n otherwise f h = leave_by (nat_le q (level op)) (nat_le (left_of op) (level_of t)) _ otherwise (lt-leb q (level op) (h op f))
@@ -155,7 +155,7 @@ unless false s o h = refl
 unless true s o h = let e = h refl in cc
 
 -- Where neither a suffix nor an operator of the level goes on.
-pub leave : (q : ℕ) (t : Tree) (k : List Frame) (m : Mark) (i : Place) (n : ℕ) (otherwise : Option State) →
+pub leave : (q : ℕ) (t : Tree) (k : List Frame) (m : Terminal) (i : Attributes) (n : ℕ) (otherwise : Option State) →
     FollowsBy n (operator_of m) → (is_prefix t ≡ true → is_suffix m ≡ false) → ((op : Operator) → left_of op ≤ n → level op < q) → suffix q t k m i otherwise ≡ otherwise
 leave q t k kind.Dot i n otherwise f g h = unless (is_prefix t) _ otherwise g
 leave q t k kind.Colon i n otherwise f g h = unless (is_prefix t) _ otherwise g
@@ -165,7 +165,7 @@ leave q t k kind.OpenBrace i n otherwise f g h = unless (is_prefix t) _ otherwis
 leave q t k kind.Text i n otherwise f g h = unless (is_prefix t) _ otherwise g
 leave q t k m i n otherwise f g h = leave_operator q t k i (operator_of m) n otherwise f h
 
-pub operator_no_suffix : (m : Mark) (op : Operator) → operator_of m ≡ Some op → is_suffix m ≡ false
+pub operator_no_suffix : (m : Terminal) (op : Operator) → operator_of m ≡ Some op → is_suffix m ≡ false
 operator_no_suffix kind.Dot op h = cc
 operator_no_suffix kind.Colon op h = cc
 operator_no_suffix kind.OpenBracket op h = cc
@@ -174,7 +174,7 @@ operator_no_suffix kind.OpenBrace op h = cc
 operator_no_suffix kind.Text op h = cc
 operator_no_suffix _ op h = refl
 
-taken_by : (p : ℕ) (t : Tree) (k : List Frame) (i : Place) (o : Option Operator) (op : Operator) (otherwise : Option State) (d : ℕ) →
+taken_by : (p : ℕ) (t : Tree) (k : List Frame) (i : Attributes) (o : Option Operator) (op : Operator) (otherwise : Option State) (d : ℕ) →
     o ≡ Some op → p ≤ level op → left_of op ≤ level_of t → d ≡ depth k → Room (suc d) i.counted →
     operator p t k i o otherwise ≡ Some (Need (right_of op) (InBinary p op t ∷ k))
 taken_by p t k i o op otherwise d e h j l r =
@@ -182,7 +182,7 @@ taken_by p t k i o op otherwise d e h j l r =
     ∙ ap (λ b. cond b (opened k i (Need (right_of op) (InBinary p op t ∷ k))) otherwise) (both _ _ (le-leb p (level op) h) (le-leb (left_of op) (level_of t) j))
     ∙ opened_in d k i (Need (right_of op) (InBinary p op t ∷ k)) l r
 
-pub taken : (p : ℕ) (t : Tree) (k : List Frame) (m : Mark) (i : Place) (op : Operator) (otherwise : Option State) (d : ℕ) →
+pub taken : (p : ℕ) (t : Tree) (k : List Frame) (m : Terminal) (i : Attributes) (op : Operator) (otherwise : Option State) (d : ℕ) →
     operator_of m ≡ Some op → p ≤ level op → left_of op ≤ level_of t → d ≡ depth k → Room (suc d) i.counted →
     suffix p t k m i otherwise ≡ Some (Need (right_of op) (InBinary p op t ∷ k))
 taken p t k kind.Dot i op otherwise d e h j l r = cc
@@ -193,7 +193,7 @@ taken p t k kind.OpenBrace i op otherwise d e h j l r = cc
 taken p t k kind.Text i op otherwise d e h j l r = cc
 taken p t k m i op otherwise d e h j l r = taken_by p t k i (operator_of m) op otherwise d e h j l r
 
-pub begun_constant : (p : ℕ) (k : List Frame) (m : Mark) (i : Place) (v : Literal) → constant_of m i.slice ≡ Some v → begin p k m i ≡ Some (Have p (tree.Const 0 i.line v) k)
+pub begun_constant : (p : ℕ) (k : List Frame) (m : Terminal) (i : Attributes) (v : Literal) → constant_of m i.slice ≡ Some v → begin p k m i ≡ Some (Have p (tree.Const 0 i.line v) k)
 begun_constant p k kind.Ellipsis i v e = cc
 begun_constant p k kind.Name i v e = cc
 begun_constant p k kind.OpenParen i v e = cc
@@ -201,7 +201,7 @@ begun_constant p k kind.OpenBrace i v e = cc
 begun_constant p k kind.Function i v e = cc
 begun_constant p k m i v e = ap (λ c. begin_by p k i c (unary_of m)) e
 
-begun_by : (p : ℕ) (k : List Frame) (m : Mark) (i : Place) (op : UnOp) → unary_of m ≡ Some op → begin p k m i ≡ begin_unary p k i (Some op)
+begun_by : (p : ℕ) (k : List Frame) (m : Terminal) (i : Attributes) (op : UnOp) → unary_of m ≡ Some op → begin p k m i ≡ begin_unary p k i (Some op)
 begun_by p k kind.Ellipsis i op e = cc
 begun_by p k kind.Name i op e = cc
 begun_by p k kind.OpenParen i op e = cc
@@ -214,7 +214,7 @@ begun_by p k kind.Numeral i op e = cc
 begun_by p k kind.Text i op e = cc
 begun_by p k m i op e = ap (begin_unary p k i) e
 
-pub begun_unary : (p : ℕ) (k : List Frame) (m : Mark) (i : Place) (op : UnOp) (d : ℕ) → unary_of m ≡ Some op → p ≤ 7 → d ≡ depth k → Room (suc d) i.counted → begin p k m i ≡ Some (Need 7 (InUnary p i.line op ∷ k))
+pub begun_unary : (p : ℕ) (k : List Frame) (m : Terminal) (i : Attributes) (op : UnOp) (d : ℕ) → unary_of m ≡ Some op → p ≤ 7 → d ≡ depth k → Room (suc d) i.counted → begin p k m i ≡ Some (Need 7 (InUnary p i.line op ∷ k))
 begun_unary p k m i op d e h j r =
     begun_by p k m i op e
     ∙ ap (λ b. cond b (opened k i (Need 7 (InUnary p i.line op ∷ k))) None) (le-leb p 7 h)

@@ -4,7 +4,7 @@ use Rattle.std.proofs.Common.{sym, ◌∙◌, ap, subst, arith}
 use Rattle.lua_ast.specs.Tree as tree
 use Rattle.lua_ast.specs.Tree.{Tree, Trees, none, snoc, Cases, no_case, absent, present, Fields, no_field, line_of}
 use Rattle.lua_grammar.specs.Kinds as kind
-use Rattle.lua_grammar.specs.Signs.{Mark, Place, Sign, sign, line_at}
+use Rattle.lua_grammar.specs.Signs.{Terminal, Attributes, Sign, sign, line_at}
 use Rattle.lua_grammar.specs.Operators.{left_of, right_of}
 use Rattle.lua_grammar.specs.Grammar.{Room, is_var, is_prefix, ends_open, field_of, self_name, Names, one_name, more_names, Params, no_params, some_params, params_and_more, any_params, Path, path_name, path_dot, Exp, constant, vararg, prefix, table, function, unary, binary, Prefix, name, paren, dot, index, call, method, Args, no_args, some_args, table_arg, text_arg, Commas, no_commas, commas, exps, Table, braces, FieldList, separated, and_last, Separated, no_fields, fields, Field, item_field, named_field, keyed_field, Body, body, Targets, target, targets, Stat, assign, call_stat, label, break, goto, do_block, while, repeat, if_end, if_else, num_for, num_for_step, gen_for, named_function, method_function, local_function, local, local_exps, Conds, first_cond, next_cond, Stats, no_stats, semicolon, stat, Returned, returns_none, returns_none_semicolon, returns, returns_semicolon, Block, stats, stats_return}
 use Rattle.lua_grammar.specs.Pushdown.{Begun, begun, add, block_of, Callee, called, method_called, call_of, Purpose, as_value, as_argument, Head, anonymous, assigned, local_named, own_line, given_of, Frame, InParen, InUnary, InBinary, InIndex, InArgs, InItem, InNamed, InKey, InKeyed, InLocal, InStat, InTargets, InAssign, InReturn, InWhileTest, InIfTest, InUntil, InFirst, InLimit, InStep, InIterator, InDo, InWhile, InRepeat, InThen, InElse, InNumFor, InGenFor, InFunction, ForField, ForMethod, ForVariable, ForVariables, ForFunction, ForLocalFunction, State, Need, Have, NameNext, ArgsNext, ArgsOpen, FieldNext, BlockNext, StatNext, LocalNext, LocalNames, PathNext, BodyNext, ParamFirst, ParamNames, TargetNext, ReturnNext, Done, depth, opened, made, finished, field_done, rest, step_from, steps, initial}
@@ -17,12 +17,12 @@ names_ok : {x y : List Sign} {ns : List (List ℕ)} → Names x y ns → (l : �
 names_ok one_name l b k = refl
 names_ok (more_names n) l b k = names_ok n l b k
 
-variables_comma : {x y : List Sign} {i : Place} {ns : List (List ℕ)} → Names x (sign kind.Comma i ∷ y) ns → (l : ℕ) (b : Begun) (k : List Frame) →
+variables_comma : {x y : List Sign} {i : Attributes} {ns : List (List ℕ)} → Names x (sign kind.Comma i ∷ y) ns → (l : ℕ) (b : Begun) (k : List Frame) →
     steps x (Some (NameNext (ForVariable l b) k)) ≡ steps y (Some (NameNext (ForVariables l ns b) k))
 variables_comma one_name l b k = refl
 variables_comma (more_names n) l b k = variables_comma n l b k
 
-variables_in : {x y : List Sign} {i : Place} {ns : List (List ℕ)} → Names x (sign kind.In i ∷ y) ns → (l : ℕ) (b : Begun) (k : List Frame) →
+variables_in : {x y : List Sign} {i : Attributes} {ns : List (List ℕ)} → Names x (sign kind.In i ∷ y) ns → (l : ℕ) (b : Begun) (k : List Frame) →
     steps x (Some (NameNext (ForVariable l b) k)) ≡ steps y (Some (Need 0 (InIterator l ns none b ∷ k)))
 variables_in one_name l b k = refl
 variables_in (more_names n) l b k = variables_comma n l b k
@@ -31,7 +31,7 @@ param_names_ok : {x y : List Sign} {ns : List (List ℕ)} → Names x y ns → (
 param_names_ok one_name h k = refl
 param_names_ok (more_names n) h k = param_names_ok n h k
 
-params_ok : {x y : List Sign} {i : Place} {ns : List (List ℕ)} {more : Bool} → Params x (sign kind.CloseParen i ∷ y) ns more → (h : Head) (k : List Frame) →
+params_ok : {x y : List Sign} {i : Attributes} {ns : List (List ℕ)} {more : Bool} → Params x (sign kind.CloseParen i ∷ y) ns more → (h : Head) (k : List Frame) →
     steps x (Some (ParamFirst h k)) ≡ steps y (Some (BlockNext (InFunction h ns more ∷ k)))
 params_ok no_params h k = refl
 params_ok (some_params n) h k = param_names_ok n h k
@@ -106,11 +106,11 @@ mutual
       commas_ok cs f k l ∙ exp_ok a 0 (f ts ∷ k) (l ts).0 (omega arith) (tt, λ _. refl) ∙ ap (steps z) ((l ts).1 t i)
 
   table_ok : {d : ℕ} {x y : List Sign} {t : Tree} → Table d x y t → (u : Purpose) (o : State) (k : List Frame) →
-      ((i : Place) → step_from o kind.OpenBrace i ≡ opened k i (FieldNext u i.line no_field k)) → d ≡ depth k → steps x (Some o) ≡ steps y (Some (made u t k))
+      ((i : Attributes) → step_from o kind.OpenBrace i ≡ opened k i (FieldNext u i.line no_field k)) → d ≡ depth k → steps x (Some o) ≡ steps y (Some (made u t k))
   table_ok (braces {i = i} {j = j} {x = x} r f) u o k b e =
       ap (steps x) (b i) ∙ open_step x k i (FieldNext u i.line no_field k) _ e r ∙ fields_ok f u i.line k (ap suc e)
 
-  fields_ok : {d : ℕ} {x y : List Sign} {i : Place} {fs : Fields} → FieldList d x (sign kind.CloseBrace i ∷ y) fs → (u : Purpose) (l : ℕ) (k : List Frame) → d ≡ suc (depth k) →
+  fields_ok : {d : ℕ} {x y : List Sign} {i : Attributes} {fs : Fields} → FieldList d x (sign kind.CloseBrace i ∷ y) fs → (u : Purpose) (l : ℕ) (k : List Frame) → d ≡ suc (depth k) →
       steps x (Some (FieldNext u l no_field k)) ≡ steps y (Some (made u (tree.Table 0 l fs) k))
   fields_ok (separated s) u l k e = separated_ok s u l k e
   fields_ok (and_last s f) u l k e = separated_ok s u l k e ∙ field_ok f u l k e refl
@@ -121,7 +121,7 @@ mutual
   separated_ok (fields {m = m} {z = z} {gs = gs} s f h) u l k e =
       separated_ok s u l k e ∙ field_ok f u l k e (separator_ends m h) ∙ ap (steps z) (separated_done u l gs k m h)
 
-  field_ok : {d : ℕ} {m : Mark} {i : Place} {x y : List Sign} {fs gs : Fields} → Field d x (sign m i ∷ y) fs gs → (u : Purpose) (l : ℕ) (k : List Frame) → d ≡ suc (depth k) → ends_field m ≡ true →
+  field_ok : {d : ℕ} {m : Terminal} {i : Attributes} {x y : List Sign} {fs gs : Fields} → Field d x (sign m i ∷ y) fs gs → (u : Purpose) (l : ℕ) (k : List Frame) → d ≡ suc (depth k) → ends_field m ≡ true →
       steps x (Some (FieldNext u l fs k)) ≡ steps y (field_done u l gs k m)
   field_ok {m = m} {i = i} {x = x} {y = y} {fs = fs} (item_field {t = t} a) u l k e h =
       field_start u l fs k x (exp_starts a (field_no_assign m h)) ∙ exp_ok a 0 (InItem u l fs ∷ k) e (omega arith) (field_follows m (ends_open t) h)
@@ -141,14 +141,14 @@ mutual
       open_step x (InFunction h [] false ∷ k) i (ParamFirst h k) _ e r ∙ params_ok ps h k ∙ block_ok bl (InFunction h ns more ∷ k) e refl
       ∙ ap (λ o. steps z (Some o)) (body_done h k ns more b given line f g)
 
-  targets_comma : {d l : ℕ} {i : Place} {x y : List Sign} {ts : Trees} → Targets d l x (sign kind.Comma i ∷ y) ts → (b : Begun) (k : List Frame) → d ≡ depth k →
+  targets_comma : {d l : ℕ} {i : Attributes} {x y : List Sign} {ts : Trees} → Targets d l x (sign kind.Comma i ∷ y) ts → (b : Begun) (k : List Frame) → d ≡ depth k →
       steps x (Some (StatNext b k)) ≡ steps y (Some (TargetNext l ts b k))
   targets_comma {i = i} {y = y} (target {t = t} a h) b k e =
       prefix_ok a (StatNext b k) 10 (InStat b ∷ k) (stat_begins b k) e ∙ ap (steps y) (if_true (is_var t) (Some (TargetNext (line_of t) (snoc none t) b k)) None h)
   targets_comma {l = l} {i = i} {y = y} (targets {ts = ts} {t = t} s a h) b k e =
       targets_comma s b k e ∙ prefix_ok a (TargetNext l ts b k) 10 (InTargets l ts b ∷ k) (target_begins l ts b k) e ∙ ap (steps y) (if_true (is_var t) (Some (TargetNext l (snoc ts t) b k)) None h)
 
-  targets_assign : {d l : ℕ} {i : Place} {x y : List Sign} {ts : Trees} → Targets d l x (sign kind.Assign i ∷ y) ts → (b : Begun) (k : List Frame) → d ≡ depth k →
+  targets_assign : {d l : ℕ} {i : Attributes} {x y : List Sign} {ts : Trees} → Targets d l x (sign kind.Assign i ∷ y) ts → (b : Begun) (k : List Frame) → d ≡ depth k →
       steps x (Some (StatNext b k)) ≡ steps y (Some (Need 0 (InAssign l ts none b ∷ k)))
   targets_assign {i = i} {y = y} (target {t = t} a h) b k e =
       prefix_ok a (StatNext b k) 10 (InStat b ∷ k) (stat_begins b k) e ∙ ap (steps y) (if_true (is_var t) (Some (Need 0 (InAssign (line_of t) (snoc none t) none b ∷ k))) None h)

@@ -4,13 +4,13 @@ use Rattle.std.proofs.Common.{◌∙◌, ap, arith, inl, inr, ◌⊎◌}
 use Rattle.lua_ast.specs.Tree as tree
 use Rattle.lua_ast.specs.Tree.{Tree, Trees, none, snoc, case, absent, present, item, named, keyed, line_of}
 use Rattle.lua_grammar.specs.Kinds as kind
-use Rattle.lua_grammar.specs.Signs.{Mark, Sign, sign}
+use Rattle.lua_grammar.specs.Signs.{Terminal, Sign, sign}
 use Rattle.lua_grammar.specs.Values.{numeral_of}
 use Rattle.lua_grammar.specs.Operators.{joined}
 use Rattle.lua_grammar.specs.Grammar.{is_prefix, ends_open, field_of, self_name}
 use Rattle.lua_grammar.specs.Pushdown.{Begun, begun, add, block_of, method_called, call_of, Purpose, Head, assigned, local_named, own_line, given_of, Frame, InKeyed, InStat, InTargets, InUntil, InLimit, InIterator, InWhile, InThen, InNumFor, InGenFor, InFunction, ForField, ForMethod, ForLabel, ForGoto, ForVariable, ForVariables, ForFunction, ForFunctionField, ForFunctionMethod, ForLocalFunction, ForLocal, State, Need, Have, NameNext, ArgsNext, ArgsOpen, FieldNext, FieldName, KeyEnd, BlockNext, StatNext, LabelEnd, LocalNext, LocalNames, LoopName, LoopNames, PathNext, BodyNext, ParamFirst, ParamNext, ParamNames, ParamsEnd, TargetNext, ReturnNext, BlockEnd, Done, text_args, made, finished, end_block, rest, is_end, step_from, steps}
 use Rattle.lua_grammar.specs.Parses.{free, frees}
-use Rattle.lua_grammar.proofs.Basics.{size_of, FollowsMark, Follows, if_true, prefix_is, pop_unary, pop_binary}
+use Rattle.lua_grammar.proofs.Basics.{size_of, FollowsTerminal, Follows, if_true, prefix_is, pop_unary, pop_binary}
 use Rattle.lua_grammar.proofs.Nexts.{stats_end_by}
 use Rattle.lua_grammar.proofs.Contexts.{Wants, in_paren, in_unary, in_binary, in_index, in_args, in_item, in_named, in_key, in_keyed, in_local, in_stat, in_targets, in_assign, in_return, in_while_test, in_if_test, in_until, in_first, in_limit, in_step, in_iterator, TableAt, table_value, table_argument, HeadAt, head_anonymous, head_path, head_method, head_local, Opens, whole, in_do, in_while, in_repeat, in_then, in_else, in_num_for, in_num_for_step, in_gen_for, in_function, At, at, Part, Sound, stands_need, stands_have, stands_field, stands_method, stands_label, stands_goto, stands_variable, stands_variables, stands_function, stands_function_field, stands_function_method, stands_local_function, stands_local, stands_args_next, stands_args_open, stands_field_next, stands_field_name, stands_key_end, stands_block_next, stands_stat_next, stands_label_end, stands_local_next, stands_local_names, stands_loop_name, stands_loop_names, stands_path_next, stands_body_next, stands_param_first, stands_param_next, stands_param_names, stands_params_end, stands_target_next, stands_return_next, stands_block_end, stands_done, level_most, call_prefix}
 
@@ -18,42 +18,42 @@ abbrev one : Tree
 one = tree.Const 0 1 (numeral_of [])
 
 pub record CanEnd (o : State) : Type 0 where
-  pub more : List Mark
+  pub more : List Terminal
   pub tree : Tree
   pub ends : steps (frees more) (Some o) ≡ Some (Done tree)
 
 -- What ends a block.
 record BlockEnds (k : List Frame) (t : Tree) : Type 0 where
-  mark : Mark
-  more : List Mark
+  terminal : Terminal
+  more : List Terminal
   tree : Tree
-  ends : steps (frees more) (end_block k t mark free) ≡ Some (Done tree)
-  is_an_end : is_end mark ≡ true
+  ends : steps (frees more) (end_block k t terminal free) ≡ Some (Done tree)
+  is_an_end : is_end terminal ≡ true
 
 record HaveEnds (p : ℕ) (t : Tree) (k : List Frame) : Type 0 where
-  more : List Mark
+  more : List Terminal
   tree : Tree
   ends : steps (frees more) (Some (Have p t k)) ≡ Some (Done tree)
   plain : p ≤ 9 → Follows 0 true (frees more)
 
 -- One sign, and then what ends the next state.
-then_ends : (o : State) (m : Mark) (o' : State) → step_from o m free ≡ Some o' → CanEnd o' → CanEnd o
+then_ends : (o : State) (m : Terminal) (o' : State) → step_from o m free ≡ Some o' → CanEnd o' → CanEnd o
 then_ends o m o' e r = record { more = m ∷ r.more; tree = r.tree; ends = ap (steps (frees r.more)) e ∙ r.ends }
 
 stats_can_end : (b : Begun) (k : List Frame) → BlockEnds k (block_of b) → CanEnd (StatNext b k)
-stats_can_end b k e = record { more = e.mark ∷ e.more; tree = e.tree; ends = ap (steps (frees e.more)) (stats_end_by b k e.mark free e.is_an_end) ∙ e.ends }
+stats_can_end b k e = record { more = e.terminal ∷ e.more; tree = e.tree; ends = ap (steps (frees e.more)) (stats_end_by b k e.terminal free e.is_an_end) ∙ e.ends }
 
 block_can_end : (b : Begun) (k : List Frame) → BlockEnds k (block_of b) → CanEnd (BlockEnd b k)
-block_can_end b k e = record { more = e.mark ∷ e.more; tree = e.tree; ends = e.ends }
+block_can_end b k e = record { more = e.terminal ∷ e.more; tree = e.tree; ends = e.ends }
 
-by_mark : {p : ℕ} {t : Tree} {k : List Frame} (m : Mark) (o : State) → step_from (Have p t k) m free ≡ Some o → FollowsMark 0 true m → CanEnd o → HaveEnds p t k
-by_mark m o e f r = record { more = m ∷ r.more; tree = r.tree; ends = ap (steps (frees r.more)) e ∙ r.ends; plain = λ _. f }
+by_terminal : {p : ℕ} {t : Tree} {k : List Frame} (m : Terminal) (o : State) → step_from (Have p t k) m free ≡ Some o → FollowsTerminal 0 true m → CanEnd o → HaveEnds p t k
+by_terminal m o e f r = record { more = m ∷ r.more; tree = r.tree; ends = ap (steps (frees r.more)) e ∙ r.ends; plain = λ _. f }
 
 had : {p : ℕ} {t : Tree} {k : List Frame} → HaveEnds p t k → CanEnd (Have p t k)
 had h = record { more = h.more; tree = h.tree; ends = h.ends }
 
-by_block : {k : List Frame} {t : Tree} {o : State} (m : Mark) → end_block k t m free ≡ Some o → is_end m ≡ true → CanEnd o → BlockEnds k t
-by_block m e h r = record { mark = m; more = r.more; tree = r.tree; ends = ap (steps (frees r.more)) e ∙ r.ends; is_an_end = h }
+by_block : {k : List Frame} {t : Tree} {o : State} (m : Terminal) → end_block k t m free ≡ Some o → is_end m ≡ true → CanEnd o → BlockEnds k t
+by_block m e h r = record { terminal = m; more = r.more; tree = r.tree; ends = ap (steps (frees r.more)) e ∙ r.ends; is_an_end = h }
 
 plainer : (b : Bool) (y : List Sign) → Follows 0 true y → Follows 0 b y
 plainer b [] f = f
@@ -64,7 +64,7 @@ block_next_end : (k : List Frame) → ((t : Tree) → BlockEnds k t) → CanEnd 
 block_next_end k h = then_ends (BlockNext k) kind.Semicolon (StatNext (begun 1) k) refl (stats_can_end (begun 1) k (h (block_of (begun 1))))
 
 -- A prefix becomes a statement by a field and a value.
-abbrev after_dot : List Mark → List Mark
+abbrev after_dot : List Terminal → List Terminal
 after_dot y = kind.Name ∷ kind.Assign ∷ kind.Numeral ∷ kind.Semicolon ∷ y
 
 dotted : (t : Tree) (k : List Frame) (y : List Sign) → is_prefix t ≡ true → steps (sign kind.Dot free ∷ y) (Some (Have 10 t k)) ≡ steps y (Some (NameNext (ForField 10 t) k))
@@ -84,7 +84,7 @@ by_targets t l ts b k f (inr l') = absurd (omega arith)
 module _ (w : List Sign) where
   mutual
     opens_end : {k : List Frame} {x : List Sign} → Opens w k x → (t : Tree) → BlockEnds k t
-    opens_end whole t = record { mark = kind.EndOfText; more = []; tree = t; ends = refl; is_an_end = refl }
+    opens_end whole t = record { terminal = kind.EndOfText; more = []; tree = t; ends = refl; is_an_end = refl }
     opens_end (in_do {k = k} {b = b} {i = i} a r) t = by_block kind.End refl refl (at_end a (add b (tree.Do 0 i.line t)))
     opens_end (in_while {b = b} {i = i} {t = e} a _ r) t = by_block kind.End refl refl (at_end a (add b (tree.While 0 i.line e t)))
     opens_end (in_repeat {k = k} {b = b} {i = i} a r) t =
@@ -114,7 +114,7 @@ module _ (w : List Sign) where
     table_end (table_argument {c = c} b a r) t = had (have_end b (call_of c (snoc none t)) (inl (call_prefix c (snoc none t))))
 
     have_end : {k : List Frame} {p : ℕ} {x : List Sign} → Wants w k p x → (t : Tree) → (is_prefix t ≡ true) ⊎ (p ≤ 9) → HaveEnds p t k
-    have_end (in_paren {k = k} {q = q} {i = i} b r) t h = by_mark kind.CloseParen (Have q (tree.Paren 0 i.line t) k) refl (tt, λ _. refl) (had (have_end b (tree.Paren 0 i.line t) (inl refl)))
+    have_end (in_paren {k = k} {q = q} {i = i} b r) t h = by_terminal kind.CloseParen (Have q (tree.Paren 0 i.line t) k) refl (tt, λ _. refl) (had (have_end b (tree.Paren 0 i.line t) (inl refl)))
     have_end (in_unary {k = k} {q = q} {i = i} {op = op} b u l r) t h =
         let e = have_end b (tree.Unary 0 i.line op t) (inr (omega arith)) in
         let f = e.plain (omega arith) in
@@ -123,43 +123,43 @@ module _ (w : List Sign) where
         let e = have_end b (joined op l t) (inr (let s = size_of op in omega (arith, s.above, s.most))) in
         let f = e.plain (let s = size_of op in omega (arith, s.above, s.most)) in
         record { more = e.more; tree = e.tree; ends = pop_binary q op l k t 0 (frees e.more) (omega arith) (plainer (ends_open t) (frees e.more) f) ∙ e.ends; plain = λ _. f }
-    have_end (in_index {k = k} {q = q} {t = o} b p r) t h = by_mark kind.CloseBracket (Have q (tree.Index 0 (line_of o) o t) k) refl (tt, λ _. refl) (had (have_end b (tree.Index 0 (line_of o) o t) (inl refl)))
+    have_end (in_index {k = k} {q = q} {t = o} b p r) t h = by_terminal kind.CloseBracket (Have q (tree.Index 0 (line_of o) o t) k) refl (tt, λ _. refl) (had (have_end b (tree.Index 0 (line_of o) o t) (inl refl)))
     have_end (in_args {k = k} {q = q} {c = c} {es = es} b p r cs) t h =
-        by_mark kind.CloseParen (Have q (call_of c (snoc es t)) k) refl (tt, λ _. refl) (had (have_end b (call_of c (snoc es t)) (inl (call_prefix c (snoc es t)))))
-    have_end (in_item {k = k} {u = u} {l = l} {fs = fs} a s) t h = by_mark kind.CloseBrace (made u (tree.Table 0 l (item fs t)) k) refl (tt, λ _. refl) (table_end a (tree.Table 0 l (item fs t)))
+        by_terminal kind.CloseParen (Have q (call_of c (snoc es t)) k) refl (tt, λ _. refl) (had (have_end b (call_of c (snoc es t)) (inl (call_prefix c (snoc es t)))))
+    have_end (in_item {k = k} {u = u} {l = l} {fs = fs} a s) t h = by_terminal kind.CloseBrace (made u (tree.Table 0 l (item fs t)) k) refl (tt, λ _. refl) (table_end a (tree.Table 0 l (item fs t)))
     have_end (in_named {k = k} {u = u} {l = l} {i = i} {fs = fs} a s) t h =
-        by_mark kind.CloseBrace (made u (tree.Table 0 l (named fs i.slice t)) k) refl (tt, λ _. refl) (table_end a (tree.Table 0 l (named fs i.slice t)))
+        by_terminal kind.CloseBrace (made u (tree.Table 0 l (named fs i.slice t)) k) refl (tt, λ _. refl) (table_end a (tree.Table 0 l (named fs i.slice t)))
     have_end (in_key {k = k} {u = u} {l = l} {fs = fs} a s r) t h =
-        by_mark kind.CloseBracket (KeyEnd u l fs t k) refl (tt, λ _. refl)
+        by_terminal kind.CloseBracket (KeyEnd u l fs t k) refl (tt, λ _. refl)
         (then_ends (KeyEnd u l fs t k) kind.Assign (Need 0 (InKeyed u l fs t ∷ k)) refl
         (then_ends (Need 0 (InKeyed u l fs t ∷ k)) kind.Numeral (Have 0 one (InKeyed u l fs t ∷ k)) refl
         (then_ends (Have 0 one (InKeyed u l fs t ∷ k)) kind.CloseBrace (made u (tree.Table 0 l (keyed fs t one)) k) refl (table_end a (tree.Table 0 l (keyed fs t one))))))
     have_end (in_keyed {k = k} {u = u} {l = l} {fs = fs} {t = key} a s r e) t h =
-        by_mark kind.CloseBrace (made u (tree.Table 0 l (keyed fs key t)) k) refl (tt, λ _. refl) (table_end a (tree.Table 0 l (keyed fs key t)))
-    have_end (in_local {k = k} {b = b} {i = i} {ns = ns} {es = es} a n cs) t h = by_mark kind.Semicolon (StatNext (add b (tree.Local 0 i.line ns (snoc es t))) k) refl (tt, λ _. refl) (at_end a _)
+        by_terminal kind.CloseBrace (made u (tree.Table 0 l (keyed fs key t)) k) refl (tt, λ _. refl) (table_end a (tree.Table 0 l (keyed fs key t)))
+    have_end (in_local {k = k} {b = b} {i = i} {ns = ns} {es = es} a n cs) t h = by_terminal kind.Semicolon (StatNext (add b (tree.Local 0 i.line ns (snoc es t))) k) refl (tt, λ _. refl) (at_end a _)
     have_end (in_stat {k = k} {b = b} a p) t h = by_stat t b k (at_end a (add b (assigned_field t))) h
     have_end (in_targets {k = k} {b = b} {l = l} {ts = ts} a p vs) t h = by_targets t l ts b k (at_end a (add b (tree.Assign 0 l (snoc ts (field_of t free)) (snoc none one)))) h
-    have_end (in_assign {k = k} {b = b} {l = l} {ts = ts} {es = es} a p vs cs) t h = by_mark kind.Semicolon (StatNext (add b (tree.Assign 0 l ts (snoc es t))) k) refl (tt, λ _. refl) (at_end a _)
+    have_end (in_assign {k = k} {b = b} {l = l} {ts = ts} {es = es} a p vs cs) t h = by_terminal kind.Semicolon (StatNext (add b (tree.Assign 0 l ts (snoc es t))) k) refl (tt, λ _. refl) (at_end a _)
     have_end (in_return {k = k} {b = b} {i = i} {es = es} a cs) t h =
-        by_mark kind.Semicolon (BlockEnd (add b (tree.Return 0 i.line (snoc es t))) k) refl (tt, λ _. refl) (block_can_end (add b (tree.Return 0 i.line (snoc es t))) k (at_block a _))
+        by_terminal kind.Semicolon (BlockEnd (add b (tree.Return 0 i.line (snoc es t))) k) refl (tt, λ _. refl) (block_can_end (add b (tree.Return 0 i.line (snoc es t))) k (at_block a _))
     have_end (in_while_test {k = k} {b = b} {i = i} a) t h =
-        by_mark kind.Do (BlockNext (InWhile i.line t b ∷ k)) refl (tt, λ _. refl) (block_next_end (InWhile i.line t b ∷ k) (λ u. by_block kind.End refl refl (at_end a (add b (tree.While 0 i.line t u)))))
+        by_terminal kind.Do (BlockNext (InWhile i.line t b ∷ k)) refl (tt, λ _. refl) (block_next_end (InWhile i.line t b ∷ k) (λ u. by_block kind.End refl refl (at_end a (add b (tree.While 0 i.line t u)))))
     have_end (in_if_test {k = k} {b = b} {l = l} {cs = cs} a p q) t h =
-        by_mark kind.Then (BlockNext (InThen l cs t b ∷ k)) refl (tt, λ _. refl) (block_next_end (InThen l cs t b ∷ k) (λ u. by_block kind.End refl refl (at_end a (add b (tree.If 0 l (case cs t u) absent)))))
-    have_end (in_until {k = k} {b = b} {i = i} {t = bt} a r bl) t h = by_mark kind.Semicolon (StatNext (add b (tree.Repeat 0 i.line bt t)) k) refl (tt, λ _. refl) (at_end a _)
+        by_terminal kind.Then (BlockNext (InThen l cs t b ∷ k)) refl (tt, λ _. refl) (block_next_end (InThen l cs t b ∷ k) (λ u. by_block kind.End refl refl (at_end a (add b (tree.If 0 l (case cs t u) absent)))))
+    have_end (in_until {k = k} {b = b} {i = i} {t = bt} a r bl) t h = by_terminal kind.Semicolon (StatNext (add b (tree.Repeat 0 i.line bt t)) k) refl (tt, λ _. refl) (at_end a _)
     have_end (in_first {k = k} {b = b} {i = i} {j = j} a) t h =
-        by_mark kind.Comma (Need 0 (InLimit i.line j.slice t b ∷ k)) refl (tt, λ _. refl)
+        by_terminal kind.Comma (Need 0 (InLimit i.line j.slice t b ∷ k)) refl (tt, λ _. refl)
         (then_ends (Need 0 (InLimit i.line j.slice t b ∷ k)) kind.Numeral (Have 0 one (InLimit i.line j.slice t b ∷ k)) refl
         (then_ends (Have 0 one (InLimit i.line j.slice t b ∷ k)) kind.Do (BlockNext (InNumFor i.line j.slice t one absent b ∷ k)) refl
         (block_next_end (InNumFor i.line j.slice t one absent b ∷ k) (λ u. by_block kind.End refl refl (at_end a (add b (tree.NumFor 0 i.line j.slice t one absent u)))))))
     have_end (in_limit {k = k} {b = b} {i = i} {j = j} {a = t1} a e) t h =
-        by_mark kind.Do (BlockNext (InNumFor i.line j.slice t1 t absent b ∷ k)) refl (tt, λ _. refl)
+        by_terminal kind.Do (BlockNext (InNumFor i.line j.slice t1 t absent b ∷ k)) refl (tt, λ _. refl)
         (block_next_end (InNumFor i.line j.slice t1 t absent b ∷ k) (λ u. by_block kind.End refl refl (at_end a (add b (tree.NumFor 0 i.line j.slice t1 t absent u)))))
     have_end (in_step {k = k} {b = b} {i = i} {j = j} {a = t1} {e = t2} a e f) t h =
-        by_mark kind.Do (BlockNext (InNumFor i.line j.slice t1 t2 (present t) b ∷ k)) refl (tt, λ _. refl)
+        by_terminal kind.Do (BlockNext (InNumFor i.line j.slice t1 t2 (present t) b ∷ k)) refl (tt, λ _. refl)
         (block_next_end (InNumFor i.line j.slice t1 t2 (present t) b ∷ k) (λ u. by_block kind.End refl refl (at_end a (add b (tree.NumFor 0 i.line j.slice t1 t2 (present t) u)))))
     have_end (in_iterator {k = k} {b = b} {i = i} {ns = ns} {es = es} a n cs) t h =
-        by_mark kind.Do (BlockNext (InGenFor i.line ns (snoc es t) b ∷ k)) refl (tt, λ _. refl)
+        by_terminal kind.Do (BlockNext (InGenFor i.line ns (snoc es t) b ∷ k)) refl (tt, λ _. refl)
         (block_next_end (InGenFor i.line ns (snoc es t) b ∷ k) (λ u. by_block kind.End refl refl (at_end a (add b (tree.GenFor 0 i.line ns (snoc es t) u)))))
 
   either : (t : Tree) {d p : ℕ} {b x : List Sign} → Part d p b x t → (is_prefix t ≡ true) ⊎ (p ≤ 9)

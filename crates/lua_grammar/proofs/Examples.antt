@@ -10,18 +10,18 @@ use Rattle.lua_ast.specs.Tree.{Tree, none, snoc, no_case, case, absent, present,
 use Rattle.lua_grammar.specs.Values.{numeral_of, text_of}
 use Rattle.lua_grammar.specs.Grammar.{self_name, is_separator, Apart}
 use Rattle.lua_grammar.specs.Kinds as kind
-use Rattle.lua_grammar.specs.Signs.{Place, Sign, sign}
+use Rattle.lua_grammar.specs.Signs.{Attributes, Sign, sign}
 use Rattle.lua_grammar.specs.Parses.{parsed, unexpected, unfinished}
 use Rattle.lua_grammar.specs.Deciding.{reading}
 use Rattle.lua_grammar.proofs.Words.{new_line, plain, a_name, a_number, a_text, ReadsAs, read_as}
 use Rattle.lua_lexer.specs.Numerals.{value as value_of_digits}
 use Rattle.lua_lexer.specs.Values.{text_value, bytes_from}
-use Rattle.lua_lexer.specs.Brackets.{opening}
+use Rattle.lua_lexer.specs.Brackets.{bracket_level}
 use Rattle.lua_lexer.specs.Escapes.{part_at, escape, escaped}
 
 -- What the examples compute with.
 computing : Unit {0}
-unfolding reading numeral_of text_of value_of_digits text_value bytes_from part_at escape escaped opening self_name
+unfolding reading numeral_of text_of value_of_digits text_value bytes_from part_at escape escaped bracket_level self_name
 computing = tt
 
 abbrev named_by : List ℕ → Tree
@@ -97,7 +97,7 @@ and_groups_to_the_left = read_as refl
 semicolons_part_fields : is_separator kind.Semicolon ≡ true
 semicolons_part_fields = refl
 
-no_parenthesis_after_a_prefix : (i : Place) (x : List Sign) → Apart true (sign kind.OpenParen i ∷ x) → ⊥
+no_parenthesis_after_a_prefix : (i : Attributes) (x : List Sign) → Apart true (sign kind.OpenParen i ∷ x) → ⊥
 no_parenthesis_after_a_prefix i x apart = apart
 
 -- return a < b <= x

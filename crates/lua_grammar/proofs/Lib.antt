@@ -17,4 +17,3 @@ mod LevelTokens
 mod Programs
 pub mod Lines
 pub mod Loose
-pub mod Verdicts

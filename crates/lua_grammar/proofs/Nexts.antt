@@ -4,15 +4,15 @@ use Rattle.std.proofs.Common.{sym, ◌∙◌, ap, subst, arith}
 use Rattle.lua_ast.specs.Tree as tree
 use Rattle.lua_ast.specs.Tree.{Tree, Trees, none, snoc, Cases, case, absent, Fields, line_of}
 use Rattle.lua_grammar.specs.Kinds as kind
-use Rattle.lua_grammar.specs.Signs.{Mark, Place, Sign, sign, line_at}
+use Rattle.lua_grammar.specs.Signs.{Terminal, Attributes, Sign, sign, line_at}
 use Rattle.lua_grammar.specs.Operators.{operator_of}
 use Rattle.lua_grammar.specs.Grammar.{Apart, is_call, ends_open, is_separator, Prefix, name, paren, dot, index, call, method, Body, body, Targets, target, targets, Stat, assign, call_stat, label, break, goto, do_block, while, repeat, if_end, if_else, num_for, num_for_step, gen_for, named_function, method_function, local_function, local, local_exps, Conds, first_cond, next_cond, Stats, no_stats, semicolon, stat}
 use Rattle.lua_grammar.specs.Pushdown.{Begun, begun, add, block_of, Purpose, assigned, Frame, InLocal, InStat, InAssign, InReturn, InIfTest, InThen, InElse, State, Need, Have, FieldNext, BlockNext, StatNext, LocalNames, PathNext, BodyNext, ReturnNext, BlockEnd, opened, begin, end_block, next, field_done, close, rest, local_names, is_end, return_next, step_from, steps}
-use Rattle.lua_grammar.proofs.Basics.{size_of, is_suffix, FollowsBy, FollowsMark, Follows, if_true, prefix_open, leave}
+use Rattle.lua_grammar.proofs.Basics.{size_of, is_suffix, FollowsBy, FollowsTerminal, Follows, if_true, prefix_open, leave}
 use Rattle.lua_grammar.proofs.Starting.{is_assign, NoAssign}
 
 -- May come after a statement.
-abbrev pub is_next : Mark → Bool
+abbrev pub is_next : Terminal → Bool
 is_next kind.Semicolon = true
 is_next kind.Name = true
 is_next kind.OpenParen = true
@@ -34,19 +34,19 @@ is_next kind.Until = true
 is_next kind.EndOfText = true
 is_next _ = false
 
-abbrev pub is_open : Mark → Bool
+abbrev pub is_open : Terminal → Bool
 is_open kind.OpenParen = true
 is_open _ = false
 
-abbrev pub AfterMark : Bool → Mark → Type 0
-AfterMark b m = (is_next m ≡ true) × (b ≡ true → is_open m ≡ false)
+abbrev pub AfterTerminal : Bool → Terminal → Type 0
+AfterTerminal b m = (is_next m ≡ true) × (b ≡ true → is_open m ≡ false)
 
 -- May come after a statement, where b says whether it ends in a prefix.
 abbrev pub After : Bool → List Sign → Type 0
 After b [] = ⊥
-After b (sign m i ∷ y) = AfterMark b m
+After b (sign m i ∷ y) = AfterTerminal b m
 
-next_operator : (m : Mark) → is_next m ≡ true → operator_of m ≡ None
+next_operator : (m : Terminal) → is_next m ≡ true → operator_of m ≡ None
 next_operator kind.Or h = cc
 next_operator kind.And h = cc
 next_operator kind.Less h = cc
@@ -64,7 +64,7 @@ next_operator kind.Percent h = cc
 next_operator kind.Caret h = cc
 next_operator _ h = refl
 
-next_suffix : (m : Mark) → is_next m ≡ true → is_open m ≡ false → is_suffix m ≡ false
+next_suffix : (m : Terminal) → is_next m ≡ true → is_open m ≡ false → is_suffix m ≡ false
 next_suffix kind.Dot h i = cc
 next_suffix kind.Colon h i = cc
 next_suffix kind.OpenBracket h i = cc
@@ -73,14 +73,14 @@ next_suffix kind.OpenBrace h i = cc
 next_suffix kind.Text h i = cc
 next_suffix _ h i = refl
 
-pub next_follows : (n : ℕ) (b : Bool) (m : Mark) → AfterMark b m → FollowsMark n b m
+pub next_follows : (n : ℕ) (b : Bool) (m : Terminal) → AfterTerminal b m → FollowsTerminal n b m
 next_follows n b m h = (subst (FollowsBy n) (sym (next_operator m h.0)) tt, λ e. next_suffix m h.0 (h.1 e))
 
 pub after_follows : (n : ℕ) (b : Bool) (y : List Sign) → After b y → Follows n b y
 after_follows n b [] h = h
 after_follows n b (sign m i ∷ y) h = next_follows n b m h
 
-pub end_next : (m : Mark) → is_end m ≡ true → (is_next m ≡ true) × (is_open m ≡ false)
+pub end_next : (m : Terminal) → is_end m ≡ true → (is_next m ≡ true) × (is_open m ≡ false)
 end_next kind.End h = (refl, refl)
 end_next kind.Else h = (refl, refl)
 end_next kind.Elseif h = (refl, refl)
@@ -97,7 +97,7 @@ ends_after b [] h = h
 ends_after b (sign m i ∷ y) h = ((end_next m h).0, λ _. (end_next m h).1)
 
 -- A statement that is over where the next one begins or the block ends.
-local_by : (l : ℕ) (ns : List (List ℕ)) (b : Begun) (k : List Frame) (m : Mark) (i : Place) → is_next m ≡ true → local_names l ns b k m i ≡ next (add b (tree.Local 0 l ns none)) k m i
+local_by : (l : ℕ) (ns : List (List ℕ)) (b : Begun) (k : List Frame) (m : Terminal) (i : Attributes) → is_next m ≡ true → local_names l ns b k m i ≡ next (add b (tree.Local 0 l ns none)) k m i
 local_by l ns b k kind.Comma i h = cc
 local_by l ns b k kind.Assign i h = cc
 local_by l ns b k _ i h = refl
@@ -107,17 +107,17 @@ pub local_end : (l : ℕ) (ns : List (List ℕ)) (b : Begun) (k : List Frame) (y
 local_end l ns b k [] h = absurd h
 local_end l ns b k (sign m i ∷ y) h = ap (steps y) (local_by l ns b k m i h.0)
 
-pub local_exps_by : (l : ℕ) (ns : List (List ℕ)) (es : Trees) (b : Begun) (t : Tree) (k : List Frame) (m : Mark) (i : Place) → is_next m ≡ true →
+pub local_exps_by : (l : ℕ) (ns : List (List ℕ)) (es : Trees) (b : Begun) (t : Tree) (k : List Frame) (m : Terminal) (i : Attributes) → is_next m ≡ true →
     close (InLocal l ns es b) t k m i ≡ next (add b (tree.Local 0 l ns (snoc es t))) k m i
 local_exps_by l ns es b t k kind.Comma i h = cc
 local_exps_by l ns es b t k _ i h = refl
 
-pub assign_by : (l : ℕ) (ts es : Trees) (b : Begun) (t : Tree) (k : List Frame) (m : Mark) (i : Place) → is_next m ≡ true →
+pub assign_by : (l : ℕ) (ts es : Trees) (b : Begun) (t : Tree) (k : List Frame) (m : Terminal) (i : Attributes) → is_next m ≡ true →
     close (InAssign l ts es b) t k m i ≡ next (add b (tree.Assign 0 l ts (snoc es t))) k m i
 assign_by l ts es b t k kind.Comma i h = cc
 assign_by l ts es b t k _ i h = refl
 
-pub call_by : (b : Begun) (t : Tree) (k : List Frame) (m : Mark) (i : Place) → is_next m ≡ true → is_call t ≡ true →
+pub call_by : (b : Begun) (t : Tree) (k : List Frame) (m : Terminal) (i : Attributes) → is_next m ≡ true → is_call t ≡ true →
     close (InStat b) t k m i ≡ next (add b (tree.CallStat 0 (line_of t) t)) k m i
 call_by b t k kind.Assign i h e = cc
 call_by b t k kind.Comma i h e = cc
@@ -125,8 +125,8 @@ call_by b t k m i h e = ap (λ c. cond c (next (add b (tree.CallStat 0 (line_of 
 
 -- The statement that the frame is in is over.
 pub over : (f : Frame) (t u : Tree) (b : Begun) (k : List Frame) (p : ℕ) (y : List Sign) → After (ends_open t) y →
-    ((m : Mark) (i : Place) → rest (f ∷ k) t m i ≡ close f t k m i) →
-    ((m : Mark) (i : Place) → is_next m ≡ true → close f t k m i ≡ next (add b u) k m i) →
+    ((m : Terminal) (i : Attributes) → rest (f ∷ k) t m i ≡ close f t k m i) →
+    ((m : Terminal) (i : Attributes) → is_next m ≡ true → close f t k m i ≡ next (add b u) k m i) →
     steps y (Some (Have p t (f ∷ k))) ≡ steps y (Some (StatNext (add b u) k))
 over f t u b k p [] h g j = absurd h
 over f t u b k p (sign m i ∷ y) h g j =
@@ -174,7 +174,7 @@ stat_next (local_function _ _) = refl
 stat_next (local _) = refl
 stat_next (local_exps _ _) = refl
 
-apart_by : (o : Bool) (m : Mark) (i : Place) (y : List Sign) → Apart o (sign m i ∷ y) → o ≡ true → is_open m ≡ false
+apart_by : (o : Bool) (m : Terminal) (i : Attributes) (y : List Sign) → Apart o (sign m i ∷ y) → o ≡ true → is_open m ≡ false
 apart_by true kind.OpenParen i y h e = absurd h
 apart_by true _ i y h e = refl
 apart_by false m i y h e = cc
@@ -210,7 +210,7 @@ abbrev pub end_steps : List Frame → Tree → List Sign → Option State
 end_steps k t [] = None
 end_steps k t (sign m i ∷ y) = steps y (end_block k t m i)
 
-pub stats_end_by : (b : Begun) (k : List Frame) (m : Mark) (i : Place) → is_end m ≡ true → next b k m i ≡ end_block k (block_of b) m i
+pub stats_end_by : (b : Begun) (k : List Frame) (m : Terminal) (i : Attributes) → is_end m ≡ true → next b k m i ≡ end_block k (block_of b) m i
 stats_end_by b k kind.End i h = refl
 stats_end_by b k kind.Else i h = refl
 stats_end_by b k kind.Elseif i h = refl
@@ -222,7 +222,7 @@ pub stats_end : (b : Begun) (k : List Frame) (y : List Sign) → Ends y → step
 stats_end b k [] h = absurd h
 stats_end b k (sign m i ∷ y) h = ap (steps y) (stats_end_by b k m i h)
 
-return_end_by : (l : ℕ) (b : Begun) (k : List Frame) (m : Mark) (i : Place) → is_end m ≡ true → return_next l b k m i ≡ end_block k (block_of (add b (tree.Return 0 l none))) m i
+return_end_by : (l : ℕ) (b : Begun) (k : List Frame) (m : Terminal) (i : Attributes) → is_end m ≡ true → return_next l b k m i ≡ end_block k (block_of (add b (tree.Return 0 l none))) m i
 return_end_by l b k kind.Semicolon i h = cc
 return_end_by l b k m i h = if_true (is_end m) (end_block k (block_of (add b (tree.Return 0 l none))) m i) (begin 0 (InReturn l none b ∷ k) m i) h
 
@@ -234,7 +234,7 @@ pub block_end : (b : Begun) (k : List Frame) (y : List Sign) → Ends y → step
 block_end b k [] h = absurd h
 block_end b k (sign m i ∷ y) h = refl
 
-exps_end_by : (l : ℕ) (es : Trees) (b : Begun) (t : Tree) (k : List Frame) (m : Mark) (i : Place) → is_end m ≡ true →
+exps_end_by : (l : ℕ) (es : Trees) (b : Begun) (t : Tree) (k : List Frame) (m : Terminal) (i : Attributes) → is_end m ≡ true →
     close (InReturn l es b) t k m i ≡ end_block k (block_of (add b (tree.Return 0 l (snoc es t)))) m i
 exps_end_by l es b t k kind.Comma i h = cc
 exps_end_by l es b t k kind.Semicolon i h = cc
@@ -250,12 +250,12 @@ exps_end l es b t k (sign m i ∷ y) h =
 pub ends_no_assign : (y : List Sign) → Ends y → NoAssign y
 ends_no_assign [] h = h
 ends_no_assign (sign m i ∷ y) h = by m h where
-  by : (m : Mark) → is_end m ≡ true → is_assign m ≡ false
+  by : (m : Terminal) → is_end m ≡ true → is_assign m ≡ false
   by kind.Assign h = cc
   by _ h = refl
 
 -- The conditions so far end with a block, and this comes after it.
-abbrev pub conds_end : ℕ → Cases → Begun → List Frame → Mark → Place → Option State
+abbrev pub conds_end : ℕ → Cases → Begun → List Frame → Terminal → Attributes → Option State
 conds_end l cs b k kind.End i = Some (StatNext (add b (tree.If 0 l cs absent)) k)
 conds_end l cs b k kind.Elseif i = Some (Need 0 (InIfTest l cs b ∷ k))
 conds_end l cs b k kind.Else i = opened k i (BlockNext (InElse l cs b ∷ k))
@@ -265,7 +265,7 @@ abbrev pub conds_steps : ℕ → Cases → Begun → List Frame → List Sign �
 conds_steps l cs b k [] = None
 conds_steps l cs b k (sign m i ∷ y) = steps y (conds_end l cs b k m i)
 
-then_by : (l : ℕ) (cs : Cases) (e : Tree) (b : Begun) (t : Tree) (k : List Frame) (m : Mark) (i : Place) → end_block (InThen l cs e b ∷ k) t m i ≡ conds_end l (case cs e t) b k m i
+then_by : (l : ℕ) (cs : Cases) (e : Tree) (b : Begun) (t : Tree) (k : List Frame) (m : Terminal) (i : Attributes) → end_block (InThen l cs e b ∷ k) t m i ≡ conds_end l (case cs e t) b k m i
 then_by l cs e b t k kind.End i = refl
 then_by l cs e b t k kind.Elseif i = refl
 then_by l cs e b t k kind.Else i = refl
@@ -276,33 +276,33 @@ then_end l cs e b t k [] = refl
 then_end l cs e b t k (sign m i ∷ y) = ap (steps y) (then_by l cs e b t k m i)
 
 -- What ends a field.
-abbrev pub ends_field : Mark → Bool
+abbrev pub ends_field : Terminal → Bool
 ends_field kind.CloseBrace = true
 ends_field m = is_separator m
 
-pub field_follows : (m : Mark) (b : Bool) → ends_field m ≡ true → FollowsMark 0 b m
+pub field_follows : (m : Terminal) (b : Bool) → ends_field m ≡ true → FollowsTerminal 0 b m
 field_follows kind.CloseBrace b h = (tt, λ _. refl)
 field_follows kind.Comma b h = (tt, λ _. refl)
 field_follows kind.Semicolon b h = (tt, λ _. refl)
 field_follows _ b h = absurd (cc)
 
-pub field_over : (f : Frame) (t : Tree) (k : List Frame) (m : Mark) (i : Place) → ends_field m ≡ true → ((m : Mark) (i : Place) → rest (f ∷ k) t m i ≡ close f t k m i) →
+pub field_over : (f : Frame) (t : Tree) (k : List Frame) (m : Terminal) (i : Attributes) → ends_field m ≡ true → ((m : Terminal) (i : Attributes) → rest (f ∷ k) t m i ≡ close f t k m i) →
     step_from (Have 0 t (f ∷ k)) m i ≡ close f t k m i
 field_over f t k kind.CloseBrace i h g = g kind.CloseBrace i
 field_over f t k kind.Comma i h g = g kind.Comma i
 field_over f t k kind.Semicolon i h g = g kind.Semicolon i
 field_over f t k _ i h g = absurd (cc)
 
-pub separator_ends : (m : Mark) → is_separator m ≡ true → ends_field m ≡ true
+pub separator_ends : (m : Terminal) → is_separator m ≡ true → ends_field m ≡ true
 separator_ends kind.CloseBrace h = cc
 separator_ends _ h = h
 
-pub separated_done : (u : Purpose) (l : ℕ) (fs : Fields) (k : List Frame) (m : Mark) → is_separator m ≡ true → field_done u l fs k m ≡ Some (FieldNext u l fs k)
+pub separated_done : (u : Purpose) (l : ℕ) (fs : Fields) (k : List Frame) (m : Terminal) → is_separator m ≡ true → field_done u l fs k m ≡ Some (FieldNext u l fs k)
 separated_done u l fs k kind.Comma h = refl
 separated_done u l fs k kind.Semicolon h = refl
 separated_done u l fs k _ h = cc
 
-pub field_no_assign : (m : Mark) → ends_field m ≡ true → is_assign m ≡ false
+pub field_no_assign : (m : Terminal) → ends_field m ≡ true → is_assign m ≡ false
 field_no_assign kind.Assign h = cc
 field_no_assign _ h = refl
 

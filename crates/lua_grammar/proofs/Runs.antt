@@ -3,7 +3,7 @@ use Rattle.std.specs.Prelude.{◌≡◌, ℕ, zero, suc, ◌<◌, ◌≤◌, Lis
 use Rattle.std.proofs.Common.{sym, ◌∙◌, ap, subst, arith, inl, inr, ◌⊎◌}
 use Rattle.lua_lexer.specs.declared.token.Token.{Token}
 use Rattle.lua_ast.specs.Tree.{Tree}
-use Rattle.lua_grammar.specs.Signs.{Mark, Sign}
+use Rattle.lua_grammar.specs.Signs.{Terminal, Sign}
 use Rattle.lua_grammar.specs.Pushdown.{State, Need, Done, step, steps, initial}
 use Rattle.lua_grammar.specs.Parses.{counted, uncounted, signs, end_sign, Whole, Parses, frees, Starts, Begins, IsRefused, IsAllowed, IsUnfinished, Reading, parsed, unexpected, too_deep, unfinished, Reads}
 use Rattle.lua_grammar.specs.Deciding.{run}
@@ -26,7 +26,7 @@ one_tree x s t p q = let e = accepted x s p in let f = accepted x t q in cc
 
 -- Signs whose levels don't count make a whole text of it.
 abbrev pub Completed : List Sign → Type 0
-Completed x = (more : List Mark) × (t : Tree) × Whole (x ++ frees more) t
+Completed x = (more : List Terminal) × (t : Tree) × Whole (x ++ frees more) t
 
 started : (x : List Sign) → Starts x → steps x initial ≡ None → ⊥
 started x (y, t, p) h = let e = accepted (x ++ y) t p in let f = steps-append x y initial ∙ ap (steps y) h ∙ nothing y in cc

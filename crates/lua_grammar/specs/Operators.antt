@@ -10,7 +10,7 @@ use Rattle.lua_ast.specs.declared.node.Literal.{Literal}
 use Rattle.lua_ast.specs.declared.node.Literal.TheVariants as literal
 use Rattle.lua_ast.specs.Tree as tree
 use Rattle.lua_ast.specs.Tree.{Tree, line_of}
-use Rattle.lua_grammar.specs.Signs.{Mark}
+use Rattle.lua_grammar.specs.Signs.{Terminal}
 use Rattle.lua_grammar.specs.Kinds as kind
 use Rattle.lua_grammar.specs.Values.{text_of, numeral_of}
 
@@ -18,7 +18,7 @@ pub data Operator : Type 0 where
   value : BinOp → Operator
   logic : LogicOp → Operator
 
-abbrev pub operator_of : Mark → Option Operator
+abbrev pub operator_of : Terminal → Option Operator
 operator_of kind.Or = Some (logic logic_op.Or)
 operator_of kind.And = Some (logic logic_op.And)
 operator_of kind.Less = Some (value bin_op.Less)
@@ -36,7 +36,7 @@ operator_of kind.Percent = Some (value bin_op.Mod)
 operator_of kind.Caret = Some (value bin_op.Pow)
 operator_of _ = None
 
-abbrev pub unary_of : Mark → Option UnOp
+abbrev pub unary_of : Terminal → Option UnOp
 unary_of kind.Not = Some un_op.Not
 unary_of kind.Hash = Some un_op.Len
 unary_of kind.Minus = Some un_op.Neg
@@ -76,7 +76,7 @@ joined (value op) l r = tree.Binary 0 (line_of l) op l r
 joined (logic op) l r = tree.Logic 0 (line_of l) op l r
 
 -- A token that is a constant by itself.
-abbrev pub constant_of : Mark → List ℕ → Option Literal
+abbrev pub constant_of : Terminal → List ℕ → Option Literal
 constant_of kind.Nil s = Some literal.Nil
 constant_of kind.False s = Some (literal.Bool false)
 constant_of kind.True s = Some (literal.Bool true)

@@ -3,20 +3,20 @@ use Rattle.std.specs.Prelude.{◌≡◌, ℕ, suc, ◌<◌, Bool, true, false, L
 use Rattle.lua_lexer.specs.declared.token.Token.{Token}
 use Rattle.lua_lexer.specs.Lexes.{slice_of}
 use Rattle.lua_ast.specs.Tree.{Tree}
-use Rattle.lua_grammar.specs.Signs.{Mark, token, end, Place, Sign, sign}
+use Rattle.lua_grammar.specs.Signs.{Terminal, token, end, Attributes, Sign, sign}
 use Rattle.lua_grammar.specs.Grammar.{Block}
 
 -- What a token of the text says, where its levels count or don't.
-abbrev pub place_of : Bool → List ℕ → Token → Place
-place_of c text t = record { counted = c; line = t.line; slice = slice_of text t }
+abbrev pub attributes_of : Bool → List ℕ → Token → Attributes
+attributes_of c text t = record { counted = c; line = t.line; slice = slice_of text t }
 
 -- A token of the text, whose levels count.
 abbrev pub counted : List ℕ → Token → Sign
-counted text t = sign (token t.kind) (place_of true text t)
+counted text t = sign (token t.kind) (attributes_of true text t)
 
 -- The same token, where its levels don't count.
 abbrev pub uncounted : List ℕ → Token → Sign
-uncounted text t = sign (token t.kind) (place_of false text t)
+uncounted text t = sign (token t.kind) (attributes_of false text t)
 
 abbrev pub signs : List ℕ → List Token → List Sign
 signs text [] = []
@@ -28,17 +28,17 @@ end_sign = sign end (record { counted = true; line = 1; slice = [] })
 
 -- A whole text with its end.
 abbrev pub Whole : List Sign → Tree → Type 0
-Whole x t = (i : Place) × Block 0 x (sign end i ∷ []) t
+Whole x t = (i : Attributes) × Block 0 x (sign end i ∷ []) t
 
 -- The tokens are a text of the grammar, and this is its tree.
 abbrev pub Parses : List ℕ → List Token → Tree → Type 0
 Parses text ts t = Whole (signs text ts ++ end_sign ∷ []) t
 
 -- Tokens of these kinds, and the end, of which no level counts.
-abbrev pub free : Place
+abbrev pub free : Attributes
 free = record { counted = false; line = 1; slice = [] }
 
-abbrev pub frees : List Mark → List Sign
+abbrev pub frees : List Terminal → List Sign
 frees [] = []
 frees (m ∷ ms) = sign m free ∷ frees ms
 

@@ -5,7 +5,7 @@ use Rattle.lua_ast.specs.declared.node.Literal.{Literal}
 use Rattle.lua_ast.specs.declared.node.UnOp.{UnOp}
 use Rattle.lua_ast.specs.Tree as tree
 use Rattle.lua_ast.specs.Tree.{Tree, Trees, none, snoc, Cases, no_case, case, absent, present, Fields, no_field, item, named, keyed, line_of}
-use Rattle.lua_grammar.specs.Signs.{Mark, Place, Sign, sign}
+use Rattle.lua_grammar.specs.Signs.{Terminal, Attributes, Sign, sign}
 use Rattle.lua_grammar.specs.Kinds as kind
 use Rattle.lua_grammar.specs.Values.{text_of}
 use Rattle.lua_grammar.specs.Operators.{Operator, value, logic, operator_of, unary_of, level, left_of, right_of, joined, constant_of}
@@ -165,13 +165,13 @@ room d true = nat_le d 200
 room d false = true
 
 -- A level more is opened above n open ones.
-abbrev pub opened_above : ℕ → Place → State → Option State
+abbrev pub opened_above : ℕ → Attributes → State → Option State
 opened_above n i s = cond (room (suc n) i.counted) (Some s) None
 
-abbrev pub opened : List Frame → Place → State → Option State
+abbrev pub opened : List Frame → Attributes → State → Option State
 opened k i s = opened_above (depth k) i s
 
-abbrev pub text_args : Place → Trees
+abbrev pub text_args : Attributes → Trees
 text_args i = snoc none (tree.Const 0 i.line (text_of i.slice))
 
 -- A table is whole.
@@ -185,16 +185,16 @@ finished (anonymous p l) k f = Have p f k
 finished (assigned l t g b) k f = StatNext (add b (tree.Assign 0 l (snoc none t) (snoc none f))) k
 finished (local_named l own n b) k f = StatNext (add b (tree.LocalFunction 0 l n f)) k
 
-abbrev pub begin_unary : ℕ → List Frame → Place → Option UnOp → Option State
+abbrev pub begin_unary : ℕ → List Frame → Attributes → Option UnOp → Option State
 begin_unary p k i None = None
 begin_unary p k i (Some op) = cond (nat_le p 7) (opened k i (Need 7 (InUnary p i.line op ∷ k))) None
 
-abbrev pub begin_by : ℕ → List Frame → Place → Option Literal → Option UnOp → Option State
+abbrev pub begin_by : ℕ → List Frame → Attributes → Option Literal → Option UnOp → Option State
 begin_by p k i (Some v) o = Some (Have p (tree.Const 0 i.line v) k)
 begin_by p k i None o = begin_unary p k i o
 
 -- An expression is wanted.
-abbrev pub begin : ℕ → List Frame → Mark → Place → Option State
+abbrev pub begin : ℕ → List Frame → Terminal → Attributes → Option State
 begin p k kind.Ellipsis i = Some (Have p (tree.Vararg 0 i.line) k)
 begin p k kind.Name i = Some (Have p (tree.Name 0 i.line i.slice) k)
 begin p k kind.OpenParen i = opened k i (Need 0 (InParen p i.line ∷ k))
@@ -203,7 +203,7 @@ begin p k kind.Function i = opened k i (BodyNext (anonymous p i.line) k)
 begin p k m i = begin_by p k i (constant_of m i.slice) (unary_of m)
 
 -- A block ends.
-abbrev pub end_block : List Frame → Tree → Mark → Place → Option State
+abbrev pub end_block : List Frame → Tree → Terminal → Attributes → Option State
 end_block [] t kind.EndOfText i = Some (Done t)
 end_block (InDo l b ∷ k) t kind.End i = Some (StatNext (add b (tree.Do 0 l t)) k)
 end_block (InWhile l e b ∷ k) t kind.End i = Some (StatNext (add b (tree.While 0 l e t)) k)
@@ -218,7 +218,7 @@ end_block (InFunction h ns more ∷ k) t kind.End i = Some (finished h k (tree.F
 end_block _ t _ i = None
 
 -- A statement may begin, or the block ends.
-abbrev pub next : Begun → List Frame → Mark → Place → Option State
+abbrev pub next : Begun → List Frame → Terminal → Attributes → Option State
 next b k kind.Semicolon i = Some (StatNext b k)
 next b k kind.Name i = Some (Have 10 (tree.Name 0 i.line i.slice) (InStat b ∷ k))
 next b k kind.OpenParen i = opened k i (Need 0 (InParen 10 i.line ∷ InStat b ∷ k))
@@ -235,20 +235,20 @@ next b k kind.Local i = Some (LocalNext i.line b k)
 next b k kind.Return i = Some (ReturnNext i.line b k)
 next b k m i = end_block k (block_of b) m i
 
-abbrev pub after_prefix : Tree → Begun → List Frame → Mark → Place → Option State
+abbrev pub after_prefix : Tree → Begun → List Frame → Terminal → Attributes → Option State
 after_prefix t b k kind.Assign i = cond (is_var t) (Some (Need 0 (InAssign (line_of t) (snoc none t) none b ∷ k))) None
 after_prefix t b k kind.Comma i = cond (is_var t) (Some (TargetNext (line_of t) (snoc none t) b k)) None
 after_prefix t b k m i = cond (is_call t) (next (add b (tree.CallStat 0 (line_of t) t)) k m i) None
 
 -- A field is over.
-abbrev pub field_done : Purpose → ℕ → Fields → List Frame → Mark → Option State
+abbrev pub field_done : Purpose → ℕ → Fields → List Frame → Terminal → Option State
 field_done u l fs k kind.Comma = Some (FieldNext u l fs k)
 field_done u l fs k kind.Semicolon = Some (FieldNext u l fs k)
 field_done u l fs k kind.CloseBrace = Some (made u (tree.Table 0 l fs) k)
 field_done u l fs k _ = None
 
 -- The frame goes on with the expression t.
-abbrev pub close : Frame → Tree → List Frame → Mark → Place → Option State
+abbrev pub close : Frame → Tree → List Frame → Terminal → Attributes → Option State
 close (InParen q l) t k kind.CloseParen i = Some (Have q (tree.Paren 0 l t) k)
 close (InIndex q o) t k kind.CloseBracket i = Some (Have q (tree.Index 0 (line_of o) o t) k)
 close (InArgs q c es) t k kind.CloseParen i = Some (Have q (call_of c (snoc es t)) k)
@@ -279,7 +279,7 @@ close (InIterator l ns es b) t k kind.Do i = opened k i (BlockNext (InGenFor l n
 close _ t k _ i = None
 
 -- Arguments begin.
-abbrev pub args_begin : ℕ → Callee → List Frame → Mark → Place → Option State
+abbrev pub args_begin : ℕ → Callee → List Frame → Terminal → Attributes → Option State
 args_begin p c k kind.OpenParen i = opened k i (ArgsOpen p c k)
 args_begin p c k kind.OpenBrace i = opened k i (FieldNext (as_argument p c) i.line no_field k)
 args_begin p c k kind.Text i = Some (Have p (call_of c (text_args i)) k)
@@ -288,12 +288,12 @@ args_begin p c k _ i = None
 abbrev pub takes : ℕ → Tree → Operator → Bool
 takes p t op = nat_le p (level op) && nat_le (left_of op) (level_of t)
 
-abbrev pub operator : ℕ → Tree → List Frame → Place → Option Operator → Option State → Option State
+abbrev pub operator : ℕ → Tree → List Frame → Attributes → Option Operator → Option State → Option State
 operator p t k i None otherwise = otherwise
 operator p t k i (Some op) otherwise = cond (takes p t op) (opened k i (Need (right_of op) (InBinary p op t ∷ k))) otherwise
 
 -- The expression t goes on, or else.
-abbrev pub suffix : ℕ → Tree → List Frame → Mark → Place → Option State → Option State
+abbrev pub suffix : ℕ → Tree → List Frame → Terminal → Attributes → Option State → Option State
 suffix p t k kind.Dot i otherwise = cond (is_prefix t) (Some (NameNext (ForField p t) k)) otherwise
 suffix p t k kind.Colon i otherwise = cond (is_prefix t) (Some (NameNext (ForMethod p t) k)) otherwise
 suffix p t k kind.OpenBracket i otherwise = cond (is_prefix t) (opened k i (Need 0 (InIndex p t ∷ k))) otherwise
@@ -303,16 +303,16 @@ suffix p t k kind.Text i otherwise = cond (is_prefix t) (args_begin p (called t)
 suffix p t k m i otherwise = operator p t k i (operator_of m) otherwise
 
 -- What was begun goes on where the expression t is over.
-abbrev pub rest : List Frame → Tree → Mark → Place → Option State
+abbrev pub rest : List Frame → Tree → Terminal → Attributes → Option State
 rest [] t m i = None
 rest (InUnary q l op ∷ k) t m i = suffix q (tree.Unary 0 l op t) k m i (rest k (tree.Unary 0 l op t) m i)
 rest (InBinary q op l ∷ k) t m i = suffix q (joined op l t) k m i (rest k (joined op l t) m i)
 rest (f ∷ k) t m i = close f t k m i
 
-abbrev pub follow : List Frame → ℕ → Tree → Mark → Place → Option State
+abbrev pub follow : List Frame → ℕ → Tree → Terminal → Attributes → Option State
 follow k p t m i = suffix p t k m i (rest k t m i)
 
-abbrev pub after_name : Naming → List Frame → Place → State
+abbrev pub after_name : Naming → List Frame → Attributes → State
 after_name (ForField p o) k i = Have p (field_of o i) k
 after_name (ForMethod p o) k i = ArgsNext p (method_called o i.slice) k
 after_name (ForLabel l b) k i = LabelEnd l i.slice b k
@@ -325,88 +325,88 @@ after_name (ForFunctionMethod l o b) k i = BodyNext (assigned l (field_of o i) (
 after_name (ForLocalFunction l own b) k i = BodyNext (local_named l own i.slice b) k
 after_name (ForLocal l ns b) k i = LocalNames l (ns ++ i.slice ∷ []) b k
 
-abbrev pub name_next : Naming → List Frame → Mark → Place → Option State
+abbrev pub name_next : Naming → List Frame → Terminal → Attributes → Option State
 name_next n k kind.Name i = Some (after_name n k i)
 name_next n k _ i = None
 
-abbrev pub args_open : ℕ → Callee → List Frame → Mark → Place → Option State
+abbrev pub args_open : ℕ → Callee → List Frame → Terminal → Attributes → Option State
 args_open p c k kind.CloseParen i = Some (Have p (call_of c none) k)
 args_open p c k m i = begin 0 (InArgs p c none ∷ k) m i
 
-abbrev pub field_next : Purpose → ℕ → Fields → List Frame → Mark → Place → Option State
+abbrev pub field_next : Purpose → ℕ → Fields → List Frame → Terminal → Attributes → Option State
 field_next u l fs k kind.CloseBrace i = Some (made u (tree.Table 0 l fs) k)
 field_next u l fs k kind.Name i = Some (FieldName u l fs i.line i.slice k)
 field_next u l fs k kind.OpenBracket i = opened_above (suc (depth k)) i (Need 0 (InKey u l fs ∷ k))
 field_next u l fs k m i = begin 0 (InItem u l fs ∷ k) m i
 
-abbrev pub field_name : Purpose → ℕ → Fields → ℕ → List ℕ → List Frame → Mark → Place → Option State
+abbrev pub field_name : Purpose → ℕ → Fields → ℕ → List ℕ → List Frame → Terminal → Attributes → Option State
 field_name u l fs nl n k kind.Assign i = Some (Need 0 (InNamed u l fs n ∷ k))
 field_name u l fs nl n k m i = follow (InItem u l fs ∷ k) 0 (tree.Name 0 nl n) m i
 
-abbrev pub key_end : Purpose → ℕ → Fields → Tree → List Frame → Mark → Option State
+abbrev pub key_end : Purpose → ℕ → Fields → Tree → List Frame → Terminal → Option State
 key_end u l fs e k kind.Assign = Some (Need 0 (InKeyed u l fs e ∷ k))
 key_end u l fs e k _ = None
 
-abbrev pub label_end : ℕ → List ℕ → Begun → List Frame → Mark → Option State
+abbrev pub label_end : ℕ → List ℕ → Begun → List Frame → Terminal → Option State
 label_end l n b k kind.DoubleColon = Some (StatNext (add b (tree.Label 0 l n)) k)
 label_end l n b k _ = None
 
-abbrev pub local_next : ℕ → Begun → List Frame → Mark → Place → Option State
+abbrev pub local_next : ℕ → Begun → List Frame → Terminal → Attributes → Option State
 local_next l b k kind.Name i = Some (LocalNames l (i.slice ∷ []) b k)
 local_next l b k kind.Function i = opened k i (NameNext (ForLocalFunction l i.line b) k)
 local_next l b k _ i = None
 
-abbrev pub local_names : ℕ → List (List ℕ) → Begun → List Frame → Mark → Place → Option State
+abbrev pub local_names : ℕ → List (List ℕ) → Begun → List Frame → Terminal → Attributes → Option State
 local_names l ns b k kind.Comma i = Some (NameNext (ForLocal l ns b) k)
 local_names l ns b k kind.Assign i = Some (Need 0 (InLocal l ns none b ∷ k))
 local_names l ns b k m i = next (add b (tree.Local 0 l ns none)) k m i
 
-abbrev pub for_name : ℕ → List ℕ → Begun → List Frame → Mark → Option State
+abbrev pub for_name : ℕ → List ℕ → Begun → List Frame → Terminal → Option State
 for_name l n b k kind.Assign = Some (Need 0 (InFirst l n b ∷ k))
 for_name l n b k kind.Comma = Some (NameNext (ForVariables l (n ∷ []) b) k)
 for_name l n b k kind.In = Some (Need 0 (InIterator l (n ∷ []) none b ∷ k))
 for_name l n b k _ = None
 
-abbrev pub for_names : ℕ → List (List ℕ) → Begun → List Frame → Mark → Option State
+abbrev pub for_names : ℕ → List (List ℕ) → Begun → List Frame → Terminal → Option State
 for_names l ns b k kind.Comma = Some (NameNext (ForVariables l ns b) k)
 for_names l ns b k kind.In = Some (Need 0 (InIterator l ns none b ∷ k))
 for_names l ns b k _ = None
 
-abbrev pub body_next : Head → List Frame → Mark → Place → Option State
+abbrev pub body_next : Head → List Frame → Terminal → Attributes → Option State
 body_next h k kind.OpenParen i = opened (InFunction h [] false ∷ k) i (ParamFirst h k)
 body_next h k _ i = None
 
-abbrev pub path_next : ℕ → Tree → Begun → List Frame → Mark → Place → Option State
+abbrev pub path_next : ℕ → Tree → Begun → List Frame → Terminal → Attributes → Option State
 path_next l t b k kind.Dot i = Some (NameNext (ForFunctionField l t b) k)
 path_next l t b k kind.Colon i = Some (NameNext (ForFunctionMethod l t b) k)
 path_next l t b k m i = body_next (assigned l t [] b) k m i
 
-abbrev pub param_first : Head → List Frame → Mark → Place → Option State
+abbrev pub param_first : Head → List Frame → Terminal → Attributes → Option State
 param_first h k kind.CloseParen i = Some (BlockNext (InFunction h [] false ∷ k))
 param_first h k kind.Name i = Some (ParamNames h (i.slice ∷ []) k)
 param_first h k kind.Ellipsis i = Some (ParamsEnd h [] k)
 param_first h k _ i = None
 
-abbrev pub param_next : Head → List (List ℕ) → List Frame → Mark → Place → Option State
+abbrev pub param_next : Head → List (List ℕ) → List Frame → Terminal → Attributes → Option State
 param_next h ns k kind.Name i = Some (ParamNames h (ns ++ i.slice ∷ []) k)
 param_next h ns k kind.Ellipsis i = Some (ParamsEnd h ns k)
 param_next h ns k _ i = None
 
-abbrev pub param_names : Head → List (List ℕ) → List Frame → Mark → Option State
+abbrev pub param_names : Head → List (List ℕ) → List Frame → Terminal → Option State
 param_names h ns k kind.Comma = Some (ParamNext h ns k)
 param_names h ns k kind.CloseParen = Some (BlockNext (InFunction h ns false ∷ k))
 param_names h ns k _ = None
 
-abbrev pub params_end : Head → List (List ℕ) → List Frame → Mark → Option State
+abbrev pub params_end : Head → List (List ℕ) → List Frame → Terminal → Option State
 params_end h ns k kind.CloseParen = Some (BlockNext (InFunction h ns true ∷ k))
 params_end h ns k _ = None
 
-abbrev pub target_next : ℕ → Trees → Begun → List Frame → Mark → Place → Option State
+abbrev pub target_next : ℕ → Trees → Begun → List Frame → Terminal → Attributes → Option State
 target_next l ts b k kind.Name i = Some (Have 10 (tree.Name 0 i.line i.slice) (InTargets l ts b ∷ k))
 target_next l ts b k kind.OpenParen i = opened k i (Need 0 (InParen 10 i.line ∷ InTargets l ts b ∷ k))
 target_next l ts b k _ i = None
 
-abbrev pub is_end : Mark → Bool
+abbrev pub is_end : Terminal → Bool
 is_end kind.End = true
 is_end kind.Else = true
 is_end kind.Elseif = true
@@ -415,11 +415,11 @@ is_end kind.EndOfText = true
 is_end _ = false
 
 -- After return: its expressions, or the block ends.
-abbrev pub return_next : ℕ → Begun → List Frame → Mark → Place → Option State
+abbrev pub return_next : ℕ → Begun → List Frame → Terminal → Attributes → Option State
 return_next l b k kind.Semicolon i = Some (BlockEnd (add b (tree.Return 0 l none)) k)
 return_next l b k m i = cond (is_end m) (end_block k (block_of (add b (tree.Return 0 l none))) m i) (begin 0 (InReturn l none b ∷ k) m i)
 
-abbrev pub step_from : State → Mark → Place → Option State
+abbrev pub step_from : State → Terminal → Attributes → Option State
 step_from (Need p k) m i = begin p k m i
 step_from (Have p t k) m i = follow k p t m i
 step_from (NameNext n k) m i = name_next n k m i

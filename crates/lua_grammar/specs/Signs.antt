@@ -2,18 +2,19 @@
 use Rattle.std.specs.Prelude.{ℕ, Bool, List, [], ◌∷◌}
 use Rattle.lua_lexer.specs.declared.token.TokenKind.{TokenKind}
 
-pub data Mark : Type 0 where
-  token : TokenKind → Mark
-  end : Mark
+-- A terminal symbol of the grammar: a token of some kind, or the end of the text.
+pub data Terminal : Type 0 where
+  token : TokenKind → Terminal
+  end : Terminal
 
--- What a token says besides its kind: its line and its bytes. Where it is counted, at most 200 levels may be open once it is read.
-pub record Place : Type 0 where
+-- The attributes of a terminal: its line and its bytes. Where it is counted, at most 200 levels may be open once it is read.
+pub record Attributes : Type 0 where
   pub counted : Bool
   pub line : ℕ
   pub slice : List ℕ
 
 pub data Sign : Type 0 where
-  sign : (mark : Mark) (at : Place) → Sign
+  sign : (terminal : Terminal) (attributes : Attributes) → Sign
 
 -- The line of the first token.
 abbrev pub line_at : List Sign → ℕ

@@ -2,7 +2,7 @@
 ghost use Rattle.std.specs.Prelude.{◌≡◌, ◌≤◌, ◌<◌, ℕ, Bool, List, [], ◌∷◌, ◌++◌, take};
 ghost use Rattle.lua_ast.specs.Tree.{Tree, line_of};
 ghost use Rattle.lua_lexer.specs.declared.token.Token.{Token as TokenAt};
-ghost use Rattle.lua_grammar.specs.Signs.{Mark, Sign, line_at};
+ghost use Rattle.lua_grammar.specs.Signs.{Terminal, Sign, line_at};
 ghost use Rattle.lua_grammar.specs.Grammar.{Exp, Stat, Block};
 ghost use Rattle.lua_grammar.specs.Parses.{signs, end_sign, frees, loose, Whole, Starts, Parses, Begins, IsRefused, Reading, Reads};
 
@@ -24,7 +24,7 @@ pub fn beginnings()
     ensures of_texts { (text : List ℕ) (ts : List TokenAt) (t : Tree) (n : ℕ) → Parses text ts t → Begins text (take n ts) }
     ensures of_beginnings { (text : List ℕ) (ts : List TokenAt) (n : ℕ) → Begins text ts → Begins text (take n ts) }
     ensures completed { (text : List ℕ) (ts : List TokenAt) → Begins text ts →
-        (more : List Mark) × (t : Tree) × Whole (signs text ts ++ frees more) t }
+        (more : List Terminal) × (t : Tree) × Whole (signs text ts ++ frees more) t }
 {}
 
 /// The token that is refused, as unexpected or for its level, is the first one that could be: up to it the tokens begin a

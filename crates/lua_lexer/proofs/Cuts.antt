@@ -4,7 +4,7 @@ use Rattle.std.specs.List.{prefix_len}
 use Rattle.std.proofs.lemmas.List.{drop-take}
 use Rattle.std.proofs.lemmas.Bool.Decides.{nat_tests, eqb_tells}
 use Rattle.lua_lexer.specs.Bytes.{is_equals_sign}
-use Rattle.lua_lexer.specs.Brackets.{opening, closes, IsFirstClosing, IsLong}
+use Rattle.lua_lexer.specs.Brackets.{bracket_level, closes, IsFirstClosing, IsLong}
 use Rattle.lua_lexer.specs.Scan.{closing, one_further}
 use Rattle.lua_lexer.proofs.Drops.{drop-past}
 
@@ -76,9 +76,9 @@ some-if : (t : Bool) (n level : ℕ) → cond t (Some n) None ≡ Some level →
 some-if true n level e = (refl, cc)
 some-if false n level e = absurd cc
 
-pub opening-is : (b : ℕ) (rest : List ℕ) (level : ℕ) → opening (b ∷ rest) ≡ Some level → Opens level b rest
-unfolding opening
-opening-is b rest level e =
+pub bracket_level-is : (b : ℕ) (rest : List ℕ) (level : ℕ) → bracket_level (b ∷ rest) ≡ Some level → Opens level b rest
+unfolding bracket_level
+bracket_level-is b rest level e =
     let both : ((b == 91 && get_or rest (prefix_len is_equals_sign rest) 0 == 91) ≡ true) × (prefix_len is_equals_sign rest ≡ level) = some-if _ _ _ e in
     let run : prefix_len is_equals_sign rest ≡ level = both.1 in
     record { first = equal b 91 (left (b == 91) _ both.0); run = run; second = equal _ 91 (rw run at (right (b == 91) _ both.0)) }
@@ -86,38 +86,38 @@ opening-is b rest level e =
 same-test : (b c : ℕ) → b ≡ c → (b == c) ≡ true
 same-test b c e = grind (arith, nat_tests)
 
-pub opening-from : (b : ℕ) (rest : List ℕ) (level : ℕ) → Opens level b rest → opening (b ∷ rest) ≡ Some level
-unfolding opening
-opening-from b rest level h =
+pub bracket_level-from : (b : ℕ) (rest : List ℕ) (level : ℕ) → Opens level b rest → bracket_level (b ∷ rest) ≡ Some level
+unfolding bracket_level
+bracket_level-from b rest level h =
     let run : prefix_len is_equals_sign rest ≡ level = h.run in
     let first : (b == 91) ≡ true = same-test b 91 h.first in
     let second : (get_or rest level 0 == 91) ≡ true = same-test _ 91 h.second in
     rw (run, first, second) refl
 
-pub opening-cut : (n : ℕ) (xs : List ℕ) (level : ℕ) → opening xs ≡ Some level → level + 2 ≤ n → opening (take n xs) ≡ Some level
-unfolding opening
-opening-cut zero xs level e h = absurd (omega arith)
-opening-cut (suc m) [] level e h = absurd cc
-opening-cut (suc m) (b ∷ rest) level e h =
-    let o : Opens level b rest = opening-is b rest level e in
+pub bracket_level-cut : (n : ℕ) (xs : List ℕ) (level : ℕ) → bracket_level xs ≡ Some level → level + 2 ≤ n → bracket_level (take n xs) ≡ Some level
+unfolding bracket_level
+bracket_level-cut zero xs level e h = absurd (omega arith)
+bracket_level-cut (suc m) [] level e h = absurd cc
+bracket_level-cut (suc m) (b ∷ rest) level e h =
+    let o : Opens level b rest = bracket_level-is b rest level e in
     let lt : level < m = omega arith in
     let run : prefix_len is_equals_sign rest ≡ level = o.run in
-    opening-from b (take m rest) level (record {
+    bracket_level-from b (take m rest) level (record {
       first = o.first;
       run = prefix-short is_equals_sign m rest (omega arith) ∙ o.run;
       second = get_or-take m rest level 0 lt ∙ o.second;
     })
 
-pub opening-uncut : (n : ℕ) (xs : List ℕ) (level : ℕ) → opening (take n xs) ≡ Some level → opening xs ≡ Some level
-unfolding opening
-opening-uncut zero xs level e = absurd cc
-opening-uncut (suc m) [] level e = absurd cc
-opening-uncut (suc m) (b ∷ rest) level e =
-    let o : Opens level b (take m rest) = opening-is b (take m rest) level e in
+pub bracket_level-uncut : (n : ℕ) (xs : List ℕ) (level : ℕ) → bracket_level (take n xs) ≡ Some level → bracket_level xs ≡ Some level
+unfolding bracket_level
+bracket_level-uncut zero xs level e = absurd cc
+bracket_level-uncut (suc m) [] level e = absurd cc
+bracket_level-uncut (suc m) (b ∷ rest) level e =
+    let o : Opens level b (take m rest) = bracket_level-is b (take m rest) level e in
     let run : prefix_len is_equals_sign (take m rest) ≡ level = o.run in
     let in_cut : level < length (take m rest) = within (take m rest) level 91 o.second (omega arith) in
     let lt : level < m = omega (arith, length-take m rest) in
-    opening-from b rest level (record {
+    bracket_level-from b rest level (record {
       first = o.first;
       run = sym (prefix-whole is_equals_sign m rest (omega arith)) ∙ o.run;
       second = sym (get_or-take m rest level 0 lt) ∙ o.second;
@@ -166,7 +166,7 @@ closing-cut : (level m c i : ℕ) (ys : List ℕ) → c ≡ m + (level + 2) → 
 closing-cut level m c i ys e h = rw (drop-cut i c ys (omega arith)) (closes-cut level (c - i) (drop i ys) (omega arith))
 
 pub record LongAt (level m n : ℕ) (xs : List ℕ) : Type 0 where
-  pub opens : opening xs ≡ Some level
+  pub opens : bracket_level xs ≡ Some level
   pub closed : closing level (drop (level + 2) xs) ≡ Some m
   pub len : n ≡ m + (level + 2) + (level + 2)
 
@@ -188,7 +188,7 @@ long-at level m n xs le h =
     let ends : IsFirstClosing level m (drop (level + 2) (take n xs)) = h.ends in
     let cut : IsFirstClosing level m (take (n - (level + 2)) (drop (level + 2) xs)) = rw (drop-cut (level + 2) n xs (omega arith)) at ends in
     record {
-      opens = opening-uncut n xs level h.opens;
+      opens = bracket_level-uncut n xs level h.opens;
       closed = closing-from level m (drop (level + 2) xs) (first-in level m (n - (level + 2)) (drop (level + 2) xs) (omega arith) cut);
       len = len;
     }
@@ -198,11 +198,11 @@ long-within level k xs e =
     let f : IsFirstClosing level k (drop (level + 2) xs) = first-closing level k (drop (level + 2) xs) e in
     omega (arith, closes-len level (drop k (drop (level + 2) xs)) f.there, length-drop k (drop (level + 2) xs), length-drop (level + 2) xs)
 
-pub long-cut : (level k n : ℕ) (xs : List ℕ) → n ≡ k + (level + 2) + (level + 2) → opening xs ≡ Some level → closing level (drop (level + 2) xs) ≡ Some k → IsLong level k (take n xs)
+pub long-cut : (level k n : ℕ) (xs : List ℕ) → n ≡ k + (level + 2) + (level + 2) → bracket_level xs ≡ Some level → closing level (drop (level + 2) xs) ≡ Some k → IsLong level k (take n xs)
 long-cut level k n xs en o e =
     let le : k + (level + 2) + (level + 2) ≤ length xs = long-within level k xs e in
     record {
-      opens = opening-cut n xs level o (omega arith);
+      opens = bracket_level-cut n xs level o (omega arith);
       ends = rw (drop-cut (level + 2) n xs (omega arith)) (first-out level k (n - (level + 2)) (drop (level + 2) xs) (omega arith) (first-closing level k (drop (level + 2) xs) e));
       whole = omega (arith, length-take n xs);
     }

@@ -7,7 +7,7 @@ use Rattle.lua_lexer.specs.declared.piece.Piece.TheVariants.{Gap, Token, Refused
 use Rattle.lua_lexer.specs.declared.quoted.Part.TheVariants.{Byte, Bad}
 use Rattle.lua_lexer.specs.Numerals.{value, numeral_value}
 use Rattle.lua_lexer.specs.Escapes.{escaped, decimal_escape, escape, part_at}
-use Rattle.lua_lexer.specs.Brackets.{opening, closes}
+use Rattle.lua_lexer.specs.Brackets.{bracket_level, closes}
 use Rattle.lua_lexer.specs.Values.{text_value, bytes_from}
 use Rattle.lua_lexer.specs.Lexes.{Stands}
 use Rattle.lua_lexer.specs.Scan.{scan, word_kind, late_kind, symbol, numeral, numeral_end, closing, quoted_from, dots}
@@ -29,20 +29,20 @@ past-a-byte : escape (codes "256") ≡ Bad
 unfolding escape escaped decimal_escape value
 past-a-byte = refl
 
-level-two : opening (codes "[==[x") ≡ Some 2
-unfolding opening
+level-two : bracket_level (codes "[==[x") ≡ Some 2
+unfolding bracket_level
 level-two = refl
 
-no-bracket : opening (codes "[==x") ≡ None
-unfolding opening
+no-bracket : bracket_level (codes "[==x") ≡ None
+unfolding bracket_level
 no-bracket = refl
 
 long-text-value : text_value (codes "[=[a]]b]=]") ≡ codes "a]]b"
-unfolding text_value opening
+unfolding text_value bracket_level
 long-text-value = refl
 
 quoted-text-value : text_value (codes "'a\\z  \\x41'") ≡ codes "aA"
-unfolding text_value opening bytes_from part_at escape escaped
+unfolding text_value bracket_level bytes_from part_at escape escaped
 quoted-text-value = refl
 
 two-dots : Stands (codes "..a") (Token Concat 2)
@@ -58,15 +58,15 @@ unfolding scan word_kind late_kind
 no-keyword = stands (codes "andy")
 
 first-closing-bracket : Stands (codes "[[a]]]]") (Token Text 5)
-unfolding scan opening closing closes
+unfolding scan bracket_level closing closes
 first-closing-bracket = stands (codes "[[a]]]]")
 
 higher-bracket : Stands (codes "--[=[ ]] ]=]a") (Gap 12)
-unfolding scan opening closing closes
+unfolding scan bracket_level closing closes
 higher-bracket = stands (codes "--[=[ ]] ]=]a")
 
 unclosed-comment : Stands (codes "--[[ ]") (Refused OpenComment 0)
-unfolding scan opening closing closes
+unfolding scan bracket_level closing closes
 unclosed-comment = stands (codes "--[[ ]")
 
 two-points : Stands (codes "1..2") (Refused NotWhole 0)

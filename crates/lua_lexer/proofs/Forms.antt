@@ -14,7 +14,7 @@ use Rattle.lua_lexer.specs.declared.quoted.Part.TheVariants.{Unclosed, Bad}
 use Rattle.lua_lexer.specs.Bytes.{is_blank, is_name_start, is_name_byte, is_quote, is_in_line, is_exponent, is_digit}
 use Rattle.lua_lexer.specs.Numerals.{IsNumeral, value_as, is_hexadecimal}
 use Rattle.lua_lexer.specs.Escapes.{Parts, part_at}
-use Rattle.lua_lexer.specs.Brackets.{opening, IsLong}
+use Rattle.lua_lexer.specs.Brackets.{bracket_level, IsLong}
 use Rattle.lua_lexer.specs.Spells as spells
 use Rattle.lua_lexer.specs.Spells.{Spells, IsGap, IsWord, IsQuoted}
 use Rattle.lua_lexer.specs.Lexes as pieces
@@ -41,13 +41,13 @@ pub data QuoteForm (xs : List ℕ) (n : ℕ) (q : Piece) : Type 0 where
 pub data BracketForm (xs : List ℕ) (n : ℕ) (q : Piece) : Type 0 where
   a_bracket : n ≡ 1 → q ≡ piece.Token OpenBracket 1 → BracketForm xs n q
   a_long_text : (level m : ℕ) → q ≡ piece.Token Text n → n ≤ length xs → IsLong level m (take n xs) → BracketForm xs n q
-  unclosed_bracket : (level : ℕ) → n ≡ level + 2 → q ≡ piece.Refused OpenString 0 → opening xs ≡ Some level → BracketForm xs n q
+  unclosed_bracket : (level : ℕ) → n ≡ level + 2 → q ≡ piece.Refused OpenString 0 → bracket_level xs ≡ Some level → BracketForm xs n q
 
 pub data DashForm (xs : List ℕ) (n : ℕ) (q : Piece) : Type 0 where
   a_minus : n ≡ 1 → q ≡ piece.Token Minus 1 → DashForm xs n q
-  a_line_comment : (c : List ℕ) → q ≡ piece.Gap n → n ≤ length xs → take n xs ≡ 45 ∷ 45 ∷ c → All (λ b. IsTrue (is_in_line b)) c → opening c ≡ None → DashForm xs n q
+  a_line_comment : (c : List ℕ) → q ≡ piece.Gap n → n ≤ length xs → take n xs ≡ 45 ∷ 45 ∷ c → All (λ b. IsTrue (is_in_line b)) c → bracket_level c ≡ None → DashForm xs n q
   a_long_comment : (level m : ℕ) (c : List ℕ) → q ≡ piece.Gap n → n ≤ length xs → take n xs ≡ 45 ∷ 45 ∷ c → IsLong level m c → DashForm xs n q
-  unclosed_comment : (level : ℕ) (c : List ℕ) → n ≡ level + 4 → q ≡ piece.Refused OpenComment 0 → xs ≡ 45 ∷ 45 ∷ c → opening c ≡ Some level → DashForm xs n q
+  unclosed_comment : (level : ℕ) (c : List ℕ) → n ≡ level + 4 → q ≡ piece.Refused OpenComment 0 → xs ≡ 45 ∷ 45 ∷ c → bracket_level c ≡ Some level → DashForm xs n q
 
 pub data PointForm (xs : List ℕ) (n : ℕ) (q : Piece) : Type 0 where
   a_dot : (k : TokenKind) → q ≡ piece.Token k n → n ≤ length xs → DotSpelling k (take n xs) → PointForm xs n q
@@ -125,14 +125,14 @@ some-if : (t : Bool) (n level : ℕ) → cond t (Some n) None ≡ Some level →
 some-if true n level e = refl
 some-if false n level e = absurd cc
 
-pub opening-first : (b : ℕ) (rest : List ℕ) (level : ℕ) → opening (b ∷ rest) ≡ Some level → b ≡ 91
-unfolding opening
-opening-first b rest level e = is_that b 91 (left (b == 91) _ (some-if _ _ _ e))
+pub bracket_level-first : (b : ℕ) (rest : List ℕ) (level : ℕ) → bracket_level (b ∷ rest) ≡ Some level → b ≡ 91
+unfolding bracket_level
+bracket_level-first b rest level e = is_that b 91 (left (b == 91) _ (some-if _ _ _ e))
 
-long-first : (n b : ℕ) (rest : List ℕ) (level : ℕ) → opening (take n (b ∷ rest)) ≡ Some level → b ≡ 91
-unfolding opening
+long-first : (n b : ℕ) (rest : List ℕ) (level : ℕ) → bracket_level (take n (b ∷ rest)) ≡ Some level → b ≡ 91
+unfolding bracket_level
 long-first zero b rest level e = absurd cc
-long-first (suc m) b rest level e = opening-first b (take m rest) level e
+long-first (suc m) b rest level e = bracket_level-first b (take m rest) level e
 
 quoted-first : (n b : ℕ) (rest : List ℕ) → is_quote (slice_index (take n (b ∷ rest)) 0) ≡ true → is_quote b ≡ true
 quoted-first zero b rest h = absurd cc
@@ -178,7 +178,7 @@ malformed_form n b rest q f o e (pieces.letter hex m en ef eo h v s x d none) = 
 malformed_form n b rest q f o e (pieces.no_digit en ef eo h) = rw (class-digit b (is_zero b (left (b == 48) _ h))) (a_lead en (refusal-is _ _ _ _ _ e ef eo) h)
 malformed_form n b rest q f o e (pieces.open_text v ef eo h ps un) = rw (class-quote b h) (unclosed_text v (refusal-is _ _ _ _ _ e ef eo) ps un)
 malformed_form n b rest q f o e (pieces.bad_escape v ef eo h ps un) = rw (class-quote b h) (a_bad_escape v (refusal-is _ _ _ _ _ e ef eo) ps un)
-malformed_form n b rest q f o e (pieces.open_bracket level en ef eo h) = rw (class-bracket b (opening-first b rest level h)) (unclosed_bracket level en (refusal-is _ _ _ _ _ e ef eo) h)
+malformed_form n b rest q f o e (pieces.open_bracket level en ef eo h) = rw (class-bracket b (bracket_level-first b rest level h)) (unclosed_bracket level en (refusal-is _ _ _ _ _ e ef eo) h)
 malformed_form n b rest q f o e (pieces.open_comment level c en ef eo s h) = rw (class-dash b (let same : b ≡ 45 = cc in same)) (unclosed_comment level c en (refusal-is _ _ _ _ _ e ef eo) s h)
 
 -- what fits is of the class of its first byte

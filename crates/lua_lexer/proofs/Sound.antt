@@ -11,7 +11,7 @@ use Rattle.lua_lexer.specs.Spelling.{spelling}
 use Rattle.lua_lexer.specs.Spells as spells
 use Rattle.lua_lexer.specs.Spells.{Spells, IsGap}
 use Rattle.lua_lexer.specs.Numerals.{IsNumeral, lead_of}
-use Rattle.lua_lexer.specs.Brackets.{opening}
+use Rattle.lua_lexer.specs.Brackets.{bracket_level}
 use Rattle.lua_lexer.specs.Scan.{scan}
 use Rattle.lua_lexer.proofs.Cuts.{equal}
 use Rattle.lua_lexer.proofs.Classes.{class-other, good, GoodOf}
@@ -47,12 +47,12 @@ no_spelling : (k : TokenKind) → GoodOf k (spelling k) → spelling k ≡ Some 
 no_spelling k g e = subst (λ (o : Option (List ℕ)). GoodOf k o) e g
 
 no_token : (k : TokenKind) → Spells k [] → ⊥
-unfolding opening
+unfolding bracket_level
 no_token k (spells.fixed e) = no_spelling k (good k) e
 no_token k (spells.name e w none) = w
 no_token k (spells.numeral hex e h v) = let some : lead_of hex < 0 = h.some in omega arith
 no_token k (spells.quoted place v e h) = let begins : false ≡ true = h.begins in cc
-no_token k (spells.long level n e h) = let opens : opening [] ≡ Some level = h.opens in cc
+no_token k (spells.long level n e h) = let opens : bracket_level [] ≡ Some level = h.opens in cc
 
 no_gap : IsGap [] → ⊥
 no_gap (spells.blank b e h) = cc
@@ -63,7 +63,7 @@ no_numeral : (hex : Bool) (m : ℕ) → IsNumeral hex (take m []) → ⊥
 no_numeral hex m h = let some : lead_of hex < length (take {A = ℕ} m []) = h.some in omega (arith, ap length (take-nil m))
 
 no_malformed : (n offset : ℕ) (f : Fault) → IsMalformed [] n f offset → ⊥
-unfolding opening
+unfolding bracket_level
 no_malformed n o f (pieces.not_whole hex m en ef eo h t) = no_numeral hex m h
 no_malformed n o f (pieces.point_first en ef eo h d) = omega arith
 no_malformed n o f (pieces.too_big hex le ef eo h v) = no_numeral hex n h

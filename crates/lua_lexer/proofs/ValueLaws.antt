@@ -8,34 +8,34 @@ use Rattle.lua_lexer.specs.declared.quoted.Part.TheVariants.{Close}
 use Rattle.lua_lexer.specs.Bytes.{is_quote}
 use Rattle.lua_lexer.specs.Spelling.{spelling}
 use Rattle.lua_lexer.specs.Numerals.{IsNumeral, value_as, is_hexadecimal, numeral_value}
-use Rattle.lua_lexer.specs.Brackets.{opening, IsLong}
+use Rattle.lua_lexer.specs.Brackets.{bracket_level, IsLong}
 use Rattle.lua_lexer.specs.Spells as spells
 use Rattle.lua_lexer.specs.Spells.{Spells, IsQuoted}
 use Rattle.lua_lexer.specs.Values.{text_value, quoted_value, without_newline}
 use Rattle.lua_lexer.proofs.Cuts.{right}
-use Rattle.lua_lexer.proofs.Forms.{opening-first}
+use Rattle.lua_lexer.proofs.Forms.{bracket_level-first}
 use Rattle.lua_lexer.proofs.TextTops.{stops, bytes-are}
 use Rattle.lua_lexer.proofs.NumeralTops.{x_no_digit}
 
 no_quote : (b : ℕ) → b ≡ 91 → is_quote b ≡ true → ⊥
 no_quote b e h = grind (arith, nat_tests)
 
-no-opening : (s : List ℕ) (o : Option ℕ) → is_quote (slice_index s 0) ≡ true → opening s ≡ o → o ≡ None
-no-opening s None h e = refl
-no-opening [] (Some level) h e = absurd cc
-no-opening (b ∷ rest) (Some level) h e = absurd (no_quote b (opening-first b rest level e) h)
+no-bracket_level : (s : List ℕ) (o : Option ℕ) → is_quote (slice_index s 0) ≡ true → bracket_level s ≡ o → o ≡ None
+no-bracket_level s None h e = refl
+no-bracket_level [] (Some level) h e = absurd cc
+no-bracket_level (b ∷ rest) (Some level) h e = absurd (no_quote b (bracket_level-first b rest level e) h)
 
 pub quoted-value : (s : List ℕ) (place : ℕ) (v : List ℕ) → IsQuoted place v s → text_value s ≡ v
 unfolding text_value
 quoted-value s place v h =
-    let none : opening s ≡ None = no-opening s (opening s) h.begins refl in
+    let none : bracket_level s ≡ None = no-bracket_level s (bracket_level s) h.begins refl in
     let whole : v ≡ quoted_value s = bytes-are (length s + 1) (slice_index s 0) s 1 (omega arith) place v h.parts (stops _ Close h.closed tt) in
     rw none (sym whole)
 
 pub long-value : (s : List ℕ) (level n : ℕ) → IsLong level n s → text_value s ≡ without_newline (take n (drop (level + 2) s))
 unfolding text_value
 long-value s level n h =
-    let opens : opening s ≡ Some level = h.opens in
+    let opens : bracket_level s ≡ Some level = h.opens in
     let whole : length s ≡ n + (level + 2) + (level + 2) = h.whole in
     let len : length s - (level + 2) - (level + 2) ≡ n = omega arith in
     rw opens (ap (λ (i : ℕ). without_newline (take i (drop (level + 2) s))) len)

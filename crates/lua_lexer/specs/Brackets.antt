@@ -4,9 +4,9 @@ use Rattle.std.specs.List.{prefix_len}
 use Rattle.lua_lexer.specs.Bytes.{is_equals_sign}
 
 -- the level of the long bracket that opens at the front, if one does: `[`, that many equals signs, `[`
-unfoldable pub opening : List ℕ → Option ℕ
-opening [] = None
-opening (b ∷ rest) =
+unfoldable pub bracket_level : List ℕ → Option ℕ
+bracket_level [] = None
+bracket_level (b ∷ rest) =
     let n = prefix_len is_equals_sign rest in
     if b == 91 && slice_index rest n == 91 then Some n else None
 
@@ -22,6 +22,6 @@ pub record IsFirstClosing (level n : ℕ) (xs : List ℕ) : Type 0 where
 
 -- a long bracket of this level, with n bytes in it
 pub record IsLong (level n : ℕ) (s : List ℕ) : Type 0 where
-  pub opens : opening s ≡ Some level
+  pub opens : bracket_level s ≡ Some level
   pub ends : IsFirstClosing level n (drop (level + 2) s)
   pub whole : length s ≡ n + (level + 2) + (level + 2)

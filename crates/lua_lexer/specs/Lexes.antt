@@ -13,7 +13,7 @@ use Rattle.std.specs.Char.{is_ascii_digit}
 use Rattle.lua_lexer.specs.Bytes.{is_newline, is_name_start, is_exponent, is_digit, is_quote}
 use Rattle.lua_lexer.specs.Numerals.{IsNumeral, value_as, is_hexadecimal}
 use Rattle.lua_lexer.specs.Escapes.{Parts, part_at}
-use Rattle.lua_lexer.specs.Brackets.{opening}
+use Rattle.lua_lexer.specs.Brackets.{bracket_level}
 use Rattle.lua_lexer.specs.Spells.{Spells, IsGap}
 
 -- What stands at the front of the rest of a text is malformed: its first n bytes, with this fault, which lies this far on.
@@ -35,9 +35,9 @@ pub data IsMalformed (rest : List ℕ) (n : ℕ) (f : Fault) (offset : ℕ) : Ty
   -- a text in quotes whose parts meet a backslash that begins no escape sequence
   bad_escape : (v : List ℕ) → f ≡ BadEscape → offset ≡ n → is_quote (slice_index rest 0) ≡ true → Parts (slice_index rest 0) rest 1 n v → part_at (slice_index rest 0) (drop n rest) ≡ Bad → IsMalformed rest n f offset
   -- the first of a pair of long brackets
-  open_bracket : (level : ℕ) → n ≡ level + 2 → f ≡ OpenString → offset ≡ 0 → opening rest ≡ Some level → IsMalformed rest n f offset
+  open_bracket : (level : ℕ) → n ≡ level + 2 → f ≡ OpenString → offset ≡ 0 → bracket_level rest ≡ Some level → IsMalformed rest n f offset
   -- the first of a pair of long brackets behind two dashes
-  open_comment : (level : ℕ) (c : List ℕ) → n ≡ level + 4 → f ≡ OpenComment → offset ≡ 0 → rest ≡ 45 ∷ 45 ∷ c → opening c ≡ Some level → IsMalformed rest n f offset
+  open_comment : (level : ℕ) (c : List ℕ) → n ≡ level + 4 → f ≡ OpenComment → offset ≡ 0 → rest ≡ 45 ∷ 45 ∷ c → bracket_level c ≡ Some level → IsMalformed rest n f offset
 
 -- the first n bytes of the rest of a text are a token, or stand between tokens, or are malformed
 pub data Fits (rest : List ℕ) (n : ℕ) (p : Piece) : Type 0 where

@@ -13,7 +13,7 @@ use Rattle.lua_lexer.specs.declared.quoted.Part.TheVariants.{Close, Unclosed, By
 use Rattle.lua_lexer.specs.Bytes.{is_blank, is_name_start, is_name_byte, is_in_line, is_quote, is_exponent, is_digit}
 use Rattle.lua_lexer.specs.Numerals.{up_to, lead_of, value_as, is_hexadecimal}
 use Rattle.lua_lexer.specs.Escapes.{part_at}
-use Rattle.lua_lexer.specs.Brackets.{opening, closes}
+use Rattle.lua_lexer.specs.Brackets.{bracket_level, closes}
 
 unfoldable pub late_kind : List ℕ → TokenKind
 late_kind w =
@@ -143,8 +143,8 @@ scan (b ∷ rest) =
     (let n = prefix_len is_name_byte (b ∷ rest) in Token (word_kind (take n (b ∷ rest))) n)
     else (if is_ascii_digit b then numeral (is_hexadecimal (b ∷ rest)) (b ∷ rest)
     else (if is_quote b then quoted_from (length rest + 2) b (b ∷ rest) 1
-    else (if b == 91 then bracket_by (b ∷ rest) (opening (b ∷ rest))
-    else (if b == 45 then (if slice_index rest 0 == 45 then comment_by (drop 1 rest) (opening (drop 1 rest)) else Token Minus 1)
+    else (if b == 91 then bracket_by (b ∷ rest) (bracket_level (b ∷ rest))
+    else (if b == 45 then (if slice_index rest 0 == 45 then comment_by (drop 1 rest) (bracket_level (drop 1 rest)) else Token Minus 1)
     else (if b == 46 then dots rest
     else symbol_by (symbol b (slice_index rest 0))))))))
 

@@ -7,7 +7,7 @@ use Rattle.lua_lexer.specs.Bytes.{is_blank, is_name_start, is_name_byte, is_in_l
 use Rattle.lua_lexer.specs.Spelling.{spelling}
 use Rattle.lua_lexer.specs.Numerals.{IsNumeral, value_as}
 use Rattle.lua_lexer.specs.Escapes.{Parts, part_at}
-use Rattle.lua_lexer.specs.Brackets.{IsLong, opening}
+use Rattle.lua_lexer.specs.Brackets.{IsLong, bracket_level}
 
 -- a letter or `_`, and then letters, digits and `_`
 abbrev pub IsWord : List ℕ → Type 0
@@ -32,5 +32,5 @@ pub data Spells (k : TokenKind) (s : List ℕ) : Type 0 where
 -- these bytes stand between tokens: a blank, a comment to the end of the line, or a long comment
 pub data IsGap (s : List ℕ) : Type 0 where
   blank : (b : ℕ) → s ≡ b ∷ [] → is_blank b ≡ true → IsGap s
-  line_comment : (c : List ℕ) → s ≡ 45 ∷ 45 ∷ c → All (λ b. IsTrue (is_in_line b)) c → opening c ≡ None → IsGap s
+  line_comment : (c : List ℕ) → s ≡ 45 ∷ 45 ∷ c → All (λ b. IsTrue (is_in_line b)) c → bracket_level c ≡ None → IsGap s
   long_comment : (level n : ℕ) (c : List ℕ) → s ≡ 45 ∷ 45 ∷ c → IsLong level n c → IsGap s

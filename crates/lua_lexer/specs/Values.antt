@@ -3,7 +3,7 @@ use Rattle.std.specs.Prelude.{ℕ, zero, suc, ◌+◌, ◌-◌, ◌==◌, List, 
 use Rattle.lua_lexer.specs.declared.quoted.Part.{Part}
 use Rattle.lua_lexer.specs.declared.quoted.Part.TheVariants.{Close, Unclosed, Byte, Skip, Bad}
 use Rattle.lua_lexer.specs.Escapes.{part_at}
-use Rattle.lua_lexer.specs.Brackets.{opening}
+use Rattle.lua_lexer.specs.Brackets.{bracket_level}
 
 -- the byte that a part stands for, if it does, and then those of the further ones
 abbrev pub bytes_by : (ℕ → List ℕ) → ℕ → Part → List ℕ
@@ -35,4 +35,4 @@ text_value_by None s = quoted_value s
 
 -- the bytes that a literal string stands for
 unfoldable pub text_value : List ℕ → List ℕ
-text_value s = text_value_by (opening s) s
+text_value s = text_value_by (bracket_level s) s

@@ -1,7 +1,7 @@
 //! Long brackets: long texts and comments.
 
 ghost use Rattle.std.specs.Prelude.{◌≡◌, ◌<◌, ◌≤◌, ◌+◌, IsTrue, IfOk, IfSome, length};
-ghost use Rattle.lua_lexer.specs.Brackets.{opening, closes};
+ghost use Rattle.lua_lexer.specs.Brackets.{bracket_level, closes};
 ghost use Rattle.lua_lexer.specs.Scan.{closing, bracket_by, comment_by, IsWithin};
 ghost use Rattle.lua_lexer.specs.Values.{without_newline, long_value};
 
@@ -26,9 +26,9 @@ fn closes(level: usize, text: &[u8]) -> bool
 }
 
 /// The level of the long bracket that opens at the front, if one does.
-#[tactic(auto, unfolding(crate::specs::Brackets::opening))]
-pub fn opening(text: &[u8]) -> Option<usize>
-    ensures exact { result ≡ opening text.now }
+#[tactic(auto, unfolding(crate::specs::Brackets::bracket_level))]
+pub fn bracket_level(text: &[u8]) -> Option<usize>
+    ensures exact { result ≡ bracket_level text.now }
     ensures within { IfSome result (λ n. n + 2 ≤ length text.now) }
 {
     match text {
@@ -61,10 +61,10 @@ fn closing(level: usize, text: &[u8]) -> Option<usize>
 /// A text in long brackets, or the symbol `[`.
 pub fn bracket(text: &[u8]) -> Piece
     requires { 0 < length text.now }
-    ensures exact { result ≡ bracket_by text.now (opening text.now) }
+    ensures exact { result ≡ bracket_by text.now (bracket_level text.now) }
     ensures within { IsWithin (length text.now) result }
 {
-    match opening(text) {
+    match bracket_level(text) {
         Some(n) => match closing(n, behind(text, n + 2)) {
             Some(k) => Piece::Token(TokenKind::Text, k + (n + 2) + (n + 2)),
             None => Piece::Refused(Fault::OpenString, 0),
@@ -75,10 +75,10 @@ pub fn bracket(text: &[u8]) -> Piece
 
 /// A comment, of which the two dashes are taken.
 pub fn comment(text: &[u8]) -> Piece
-    ensures exact { result ≡ comment_by text.now (opening text.now) }
+    ensures exact { result ≡ comment_by text.now (bracket_level text.now) }
     ensures within { IsWithin (length text.now + 2) result }
 {
-    match opening(text) {
+    match bracket_level(text) {
         Some(n) => match closing(n, behind(text, n + 2)) {
             Some(k) => Piece::Gap(k + (n + 2) + (n + 2) + 2),
             None => Piece::Refused(Fault::OpenComment, 0),

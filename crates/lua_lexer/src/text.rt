@@ -3,7 +3,7 @@
 ghost use Rattle.std.specs.Prelude.{◌≡◌, IfOk};
 ghost use Rattle.lua_lexer.specs.Values.{text_value};
 
-use crate::bracket::{long_value, opening};
+use crate::bracket::{bracket_level, long_value};
 use crate::quoted::quoted_value;
 use std::alloc::{AllocError, Global};
 
@@ -13,7 +13,7 @@ use std::alloc::{AllocError, Global};
 pub fn text_value(alloc: Global, text: &[u8]) -> Result<Vec<u8>, AllocError>
     ensures { IfOk result (λ v. v.items ≡ text_value text.now) }
 {
-    match opening(text) {
+    match bracket_level(text) {
         Some(level) => long_value(alloc, level, text),
         None => quoted_value(alloc, text),
     }

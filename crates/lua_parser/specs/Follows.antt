@@ -2,7 +2,7 @@
 use Rattle.std.specs.Prelude.{◌≡◌, ℕ, ◌<◌, ◌&&◌, nat_le, cond, List, ◌∷◌, length, Option, Some, None, Result, Ok, Err, true, false}
 use Rattle.lua_ast.specs.declared.node.LinedNode.{LinedNode}
 use Rattle.lua_ast.specs.Tree.{Tree}
-use Rattle.lua_grammar.specs.Signs.{Mark, Place}
+use Rattle.lua_grammar.specs.Signs.{Terminal, Attributes}
 use Rattle.lua_grammar.specs.Operators.{Operator, level, left_of, right_of}
 use Rattle.lua_grammar.specs.Pushdown as pushdown
 use Rattle.lua_parser.specs.declared.state.Suffix.{Suffix}
@@ -13,7 +13,7 @@ use Rattle.lua_parser.specs.declared.state.Followed.{Followed}
 use Rattle.lua_parser.specs.declared.state.Followed.TheVariants as followed
 use Rattle.lua_parser.specs.declared.refusal.Refusal.{Refusal}
 use Rattle.lua_parser.specs.Gave.{Gave, Refuses}
-use Rattle.lua_parser.specs.Shown.{Held, place, tree_in, stack_in, frame_in, operator_in, FrameBelow}
+use Rattle.lua_parser.specs.Shown.{Held, attributes, tree_in, stack_in, frame_in, operator_in, FrameBelow}
 
 -- The operator, if it goes on with an expression of this level.
 abbrev pub chosen : (limit had : ℕ) → Option Operator → Option Operator
@@ -21,7 +21,7 @@ chosen p n None = None
 chosen p n (Some op) = cond (nat_le p (level op) && nat_le (left_of op) n) (Some op) None
 
 -- The state in which the expression t goes on.
-abbrev pub extended : ℕ → Tree → List pushdown.Frame → Mark → Place → Suffix → Option pushdown.State
+abbrev pub extended : ℕ → Tree → List pushdown.Frame → Terminal → Attributes → Suffix → Option pushdown.State
 extended p t k m i suffix.Field = Some (pushdown.NameNext (pushdown.ForField p t) k)
 extended p t k m i suffix.Method = Some (pushdown.NameNext (pushdown.ForMethod p t) k)
 extended p t k m i suffix.Index = pushdown.opened k i (pushdown.Need 0 (pushdown.InIndex p t ∷ k))
@@ -29,15 +29,15 @@ extended p t k m i suffix.Arguments = pushdown.args_begin p (pushdown.called t) 
 extended p t k m i (suffix.Operator op) = pushdown.opened k i (pushdown.Need (right_of (operator_in op)) (pushdown.InBinary p (operator_in op) t ∷ k))
 
 -- The token goes on with the expression in this way, or doesn't.
-abbrev pub IsSuffix : ℕ → Tree → Mark → Option Suffix → Type 0
-IsSuffix p t m None = (k : List pushdown.Frame) (i : Place) (o : Option pushdown.State) → pushdown.suffix p t k m i o ≡ o
-IsSuffix p t m (Some s) = (k : List pushdown.Frame) (i : Place) (o : Option pushdown.State) → pushdown.suffix p t k m i o ≡ extended p t k m i s
+abbrev pub IsSuffix : ℕ → Tree → Terminal → Option Suffix → Type 0
+IsSuffix p t m None = (k : List pushdown.Frame) (i : Attributes) (o : Option pushdown.State) → pushdown.suffix p t k m i o ≡ o
+IsSuffix p t m (Some s) = (k : List pushdown.Frame) (i : Attributes) (o : Option pushdown.State) → pushdown.suffix p t k m i o ≡ extended p t k m i s
 
 -- What was begun goes on so, where the expression t is over.
 abbrev pub Folds : List pushdown.Frame → Tree → Folded → Held → Type 0
-Folds k t (folded.Operation o) h = ((m : Mark) (i : Place) → pushdown.rest k t m i ≡ pushdown.follow (stack_in h) o.limit (tree_in h.nodes o.node) m i) × (o.node < length h.nodes)
-Folds k t (folded.Inside f) h = ((m : Mark) (i : Place) → pushdown.rest k t m i ≡ pushdown.close (frame_in h.nodes f) t (stack_in h) m i) × FrameBelow (length h.nodes) f
-Folds k t folded.Nothing h = (m : Mark) (i : Place) → pushdown.rest k t m i ≡ None
+Folds k t (folded.Operation o) h = ((m : Terminal) (i : Attributes) → pushdown.rest k t m i ≡ pushdown.follow (stack_in h) o.limit (tree_in h.nodes o.node) m i) × (o.node < length h.nodes)
+Folds k t (folded.Inside f) h = ((m : Terminal) (i : Attributes) → pushdown.rest k t m i ≡ pushdown.close (frame_in h.nodes f) t (stack_in h) m i) × FrameBelow (length h.nodes) f
+Folds k t folded.Nothing h = (m : Terminal) (i : Attributes) → pushdown.rest k t m i ≡ None
 
 -- What isn't over has the nodes that there were.
 abbrev pub IsKept : Folded → List LinedNode → List LinedNode → Type 0
@@ -50,8 +50,8 @@ IsFewer (folded.Operation o) before after = after < before
 IsFewer _ before after = Unit {0}
 
 -- The answer is that of a step behind an expression, or the expression is over and the same step is to be taken behind a larger one, inside fewer frames.
-abbrev pub Follows : (counted free : Option pushdown.State) → Mark → (line : ℕ) → List ℕ → ℕ → Result Followed Refusal → Held → Type 0
+abbrev pub Follows : (counted free : Option pushdown.State) → Terminal → (line : ℕ) → List ℕ → ℕ → Result Followed Refusal → Held → Type 0
 Follows c f m l s count (Ok (followed.Goes o)) h = Gave c f (Ok o) h
 Follows c f m l s count (Ok (followed.Over o)) h =
-    (c ≡ pushdown.follow (stack_in h) o.limit (tree_in h.nodes o.node) m (place true l s)) × (f ≡ pushdown.follow (stack_in h) o.limit (tree_in h.nodes o.node) m (place false l s)) × (o.node < length h.nodes) × (length h.frames < count)
+    (c ≡ pushdown.follow (stack_in h) o.limit (tree_in h.nodes o.node) m (attributes true l s)) × (f ≡ pushdown.follow (stack_in h) o.limit (tree_in h.nodes o.node) m (attributes false l s)) × (o.node < length h.nodes) × (length h.frames < count)
 Follows c f m l s count (Err e) h = Refuses c f e

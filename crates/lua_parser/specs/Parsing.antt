@@ -26,15 +26,15 @@ abbrev pub IsRefusal : List ℕ → List Token → ParseError → Type 0
 IsRefusal text ts error.NoMemory = Unit {0}
 IsRefusal text ts (error.Unexpected at) = (n : ℕ) × (t : Token) × (slice_get ts n ≡ Some t) × (t.start ≡ at) × IsUnexpected text ts n
 IsRefusal text ts (error.TooDeep at) = (n : ℕ) × (t : Token) × (slice_get ts n ≡ Some t) × (t.start ≡ at) × IsTooDeep text ts n
-IsRefusal text ts error.EndOfText = IsUnfinished text ts
+IsRefusal text ts (error.EndOfText len) = (len ≡ length text) × IsUnfinished text ts
 
--- The answer tells this reading.
-abbrev pub Tells : List Token → Reading → Result ChunkNodes ParseError → Type 0
-Tells ts r (Ok c) = r ≡ parsed (tree_of c)
-Tells ts r (Err error.NoMemory) = Unit {0}
-Tells ts r (Err (error.Unexpected at)) = (n : ℕ) × (t : Token) × (slice_get ts n ≡ Some t) × (t.start ≡ at) × (r ≡ unexpected n)
-Tells ts r (Err (error.TooDeep at)) = (n : ℕ) × (t : Token) × (slice_get ts n ≡ Some t) × (t.start ≡ at) × (r ≡ too_deep n)
-Tells ts r (Err error.EndOfText) = r ≡ unfinished
+-- The answer of a parser that comes to this reading.
+abbrev pub IsAnswer : List ℕ → List Token → Reading → Result ChunkNodes ParseError → Type 0
+IsAnswer text ts r (Ok c) = r ≡ parsed (tree_of c)
+IsAnswer text ts r (Err error.NoMemory) = Unit {0}
+IsAnswer text ts r (Err (error.Unexpected at)) = (n : ℕ) × (t : Token) × (slice_get ts n ≡ Some t) × (t.start ≡ at) × (r ≡ unexpected n)
+IsAnswer text ts r (Err (error.TooDeep at)) = (n : ℕ) × (t : Token) × (slice_get ts n ≡ Some t) × (t.start ≡ at) × (r ≡ too_deep n)
+IsAnswer text ts r (Err (error.EndOfText len)) = (len ≡ length text) × (r ≡ unfinished)
 
 -- A token lies within the text, and as a numeral it is not too large.
 pub record IsFit (text : List ℕ) (t : Token) : Type 0 where

@@ -3,7 +3,7 @@ use Rattle.std.specs.Prelude.{◌≡◌, ℕ, ◌<◌, Bool, true, false, List, 
 use Rattle.lua_ast.specs.declared.node.LinedNode.{LinedNode}
 use Rattle.lua_ast.specs.Tree.{Tree}
 use Rattle.lua_ast.specs.Decode.{tree, no_number, list_of, cases_of, fields_of, maybe_of, AllBelow, MaybeBelow, FieldsBelow}
-use Rattle.lua_grammar.specs.Signs.{Place}
+use Rattle.lua_grammar.specs.Signs.{Attributes}
 use Rattle.lua_grammar.specs.Operators as operators
 use Rattle.lua_grammar.specs.Operators.{Operator}
 use Rattle.lua_grammar.specs.Grammar.{self_name}
@@ -121,8 +121,8 @@ naming_in ns (naming.ForLocalFunction l own b) = pushdown.ForLocalFunction l own
 naming_in ns (naming.ForLocal l names b) = pushdown.ForLocal l names (begun_in ns b)
 
 -- A token at a place, whose levels count or don't.
-abbrev pub place : Bool → ℕ → List ℕ → Place
-place c line slice = record { counted = c; line = line; slice = slice }
+abbrev pub attributes : Bool → ℕ → List ℕ → Attributes
+attributes c line slice = record { counted = c; line = line; slice = slice }
 
 abbrev pub state_in : List LinedNode → List pushdown.Frame → State → pushdown.State
 state_in ns k (state.Need p) = pushdown.Need p k
@@ -260,6 +260,6 @@ StateBelow n (state.BlockEnd b) = BegunBelow n b
 StateBelow n (state.Done t) = t < n
 
 -- What follows a further name of the path of a function that is named: the path goes on, or the function begins, if it is a method.
-abbrev pub after_path : Tree → (method : Bool) → ℕ → pushdown.Begun → Place → List pushdown.Frame → pushdown.State
+abbrev pub after_path : Tree → (method : Bool) → ℕ → pushdown.Begun → Attributes → List pushdown.Frame → pushdown.State
 after_path t true own b i k = pushdown.after_name (pushdown.ForFunctionMethod own t b) k i
 after_path t false own b i k = pushdown.after_name (pushdown.ForFunctionField own t b) k i

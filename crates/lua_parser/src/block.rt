@@ -3,9 +3,9 @@
 ghost use Rattle.std.specs.Prelude.{◌+◌, ◌<◌, ◌∷◌, [], true, false, length, Some, None};
 ghost use Rattle.lua_ast.specs.Decode.{PartsBelow, node_tree, cases_of};
 ghost use Rattle.lua_grammar.specs.Pushdown.{end_block, block_of, InRepeat, InThen, InElse};
-ghost use Rattle.lua_parser.specs.Shown.{tree_in, stack_in, begun_in, block_in, frame_in, place, BegunBelow, CasesBelow, BlockBelow, FrameBelow};
+ghost use Rattle.lua_parser.specs.Shown.{tree_in, stack_in, begun_in, block_in, frame_in, attributes, BegunBelow, CasesBelow, BlockBelow, FrameBelow};
 ghost use Rattle.lua_parser.specs.declared.frame.OpenBlock.TheVariants.{NumericFor as OverNumbers, GenericFor as OverIterators};
-ghost use Rattle.lua_parser.specs.Gave.{Gave, ended, after_cases, mark_of};
+ghost use Rattle.lua_parser.specs.Gave.{Gave, ended, after_cases, terminal_of};
 ghost use Rattle.lua_ast.specs.Weights.{list_weight, maybe_weight, cases_weight, parts_weight};
 ghost use Rattle.lua_parser.specs.Weights.{Spends, begun_weight, block_weight, frame_weight};
 
@@ -22,8 +22,8 @@ impl Parser {
     pub fn end_block(&mut self, block: Begun, kind: Option<TokenKind>) -> Result<State, Refusal>
         requires { BegunBelow (length self.old.nodes) block }
         ensures gave { Gave
-            (end_block (stack_in self.old) (block_of (begun_in self.old.nodes block)) (mark_of kind) (place true 0 []))
-            (end_block (stack_in self.old) (block_of (begun_in self.old.nodes block)) (mark_of kind) (place false 0 []))
+            (end_block (stack_in self.old) (block_of (begun_in self.old.nodes block)) (terminal_of kind) (attributes true 0 []))
+            (end_block (stack_in self.old) (block_of (begun_in self.old.nodes block)) (terminal_of kind) (attributes false 0 []))
             result self.new }
         ensures once { Spends (λ w. begun_weight w block) self.old result self.new }
     {
@@ -48,8 +48,8 @@ impl Parser {
         requires frame { FrameBelow (length self.old.nodes) frame }
         requires body { body < length self.old.nodes }
         ensures gave { Gave
-            (end_block (frame_in self.old.nodes frame ∷ stack_in self.old) (tree_in self.old.nodes body) (mark_of kind) (place true 0 []))
-            (end_block (frame_in self.old.nodes frame ∷ stack_in self.old) (tree_in self.old.nodes body) (mark_of kind) (place false 0 []))
+            (end_block (frame_in self.old.nodes frame ∷ stack_in self.old) (tree_in self.old.nodes body) (terminal_of kind) (attributes true 0 []))
+            (end_block (frame_in self.old.nodes frame ∷ stack_in self.old) (tree_in self.old.nodes body) (terminal_of kind) (attributes false 0 []))
             result self.new }
         ensures once { Spends (λ w. frame_weight w frame + w body) self.old result self.new }
     {
@@ -69,8 +69,8 @@ impl Parser {
         requires outer { BlockBelow (length self.old.nodes) outer }
         requires body { body < length self.old.nodes }
         ensures gave { Gave
-            (end_block (block_in self.old.nodes outer ∷ stack_in self.old) (tree_in self.old.nodes body) (mark_of kind) (place true 0 []))
-            (end_block (block_in self.old.nodes outer ∷ stack_in self.old) (tree_in self.old.nodes body) (mark_of kind) (place false 0 []))
+            (end_block (block_in self.old.nodes outer ∷ stack_in self.old) (tree_in self.old.nodes body) (terminal_of kind) (attributes true 0 []))
+            (end_block (block_in self.old.nodes outer ∷ stack_in self.old) (tree_in self.old.nodes body) (terminal_of kind) (attributes false 0 []))
             result self.new }
         ensures once { Spends (λ w. block_weight w outer + w body) self.old result self.new }
     {
@@ -119,8 +119,8 @@ impl Parser {
         requires block { BegunBelow (length self.old.nodes) block }
         requires body { body < length self.old.nodes }
         ensures gave { Gave
-            (end_block (InRepeat line (begun_in self.old.nodes block) ∷ stack_in self.old) (tree_in self.old.nodes body) (mark_of kind) (place true 0 []))
-            (end_block (InRepeat line (begun_in self.old.nodes block) ∷ stack_in self.old) (tree_in self.old.nodes body) (mark_of kind) (place false 0 []))
+            (end_block (InRepeat line (begun_in self.old.nodes block) ∷ stack_in self.old) (tree_in self.old.nodes body) (terminal_of kind) (attributes true 0 []))
+            (end_block (InRepeat line (begun_in self.old.nodes block) ∷ stack_in self.old) (tree_in self.old.nodes body) (terminal_of kind) (attributes false 0 []))
             result self.new }
         ensures once { Spends (λ w. begun_weight w block + w body) self.old result self.new }
     {
@@ -148,9 +148,9 @@ impl Parser {
         requires body { body < length self.old.nodes }
         ensures gave { Gave
             (end_block (InElse line (cases_of (tree_in self.old.nodes) tests blocks) (begun_in self.old.nodes block) ∷ stack_in self.old)
-            (tree_in self.old.nodes body) (mark_of kind) (place true 0 []))
+            (tree_in self.old.nodes body) (terminal_of kind) (attributes true 0 []))
             (end_block (InElse line (cases_of (tree_in self.old.nodes) tests blocks) (begun_in self.old.nodes block) ∷ stack_in self.old)
-            (tree_in self.old.nodes body) (mark_of kind) (place false 0 []))
+            (tree_in self.old.nodes body) (terminal_of kind) (attributes false 0 []))
             result self.new }
         ensures once { Spends (λ w. cases_weight w tests blocks + begun_weight w block + w body) self.old result self.new }
     {
@@ -172,8 +172,8 @@ impl Parser {
         requires numeric { BlockBelow (length self.old.nodes) (OverNumbers numeric) }
         requires body { body < length self.old.nodes }
         ensures gave { Gave
-            (end_block (block_in self.old.nodes (OverNumbers numeric) ∷ stack_in self.old) (tree_in self.old.nodes body) (mark_of kind) (place true 0 []))
-            (end_block (block_in self.old.nodes (OverNumbers numeric) ∷ stack_in self.old) (tree_in self.old.nodes body) (mark_of kind) (place false 0 []))
+            (end_block (block_in self.old.nodes (OverNumbers numeric) ∷ stack_in self.old) (tree_in self.old.nodes body) (terminal_of kind) (attributes true 0 []))
+            (end_block (block_in self.old.nodes (OverNumbers numeric) ∷ stack_in self.old) (tree_in self.old.nodes body) (terminal_of kind) (attributes false 0 []))
             result self.new }
         ensures once { Spends (λ w. w numeric.first + w numeric.last + maybe_weight w numeric.step
             + begun_weight w numeric.block + w body) self.old result self.new }
@@ -206,8 +206,8 @@ impl Parser {
         requires generic { BlockBelow (length self.old.nodes) (OverIterators generic) }
         requires body { body < length self.old.nodes }
         ensures gave { Gave
-            (end_block (block_in self.old.nodes (OverIterators generic) ∷ stack_in self.old) (tree_in self.old.nodes body) (mark_of kind) (place true 0 []))
-            (end_block (block_in self.old.nodes (OverIterators generic) ∷ stack_in self.old) (tree_in self.old.nodes body) (mark_of kind) (place false 0 []))
+            (end_block (block_in self.old.nodes (OverIterators generic) ∷ stack_in self.old) (tree_in self.old.nodes body) (terminal_of kind) (attributes true 0 []))
+            (end_block (block_in self.old.nodes (OverIterators generic) ∷ stack_in self.old) (tree_in self.old.nodes body) (terminal_of kind) (attributes false 0 []))
             result self.new }
         ensures once { Spends (λ w. list_weight w generic.exps
             + begun_weight w generic.block + w body) self.old result self.new }
@@ -237,8 +237,8 @@ impl Parser {
         requires parts { PartsBelow (length self.old.nodes) node }
         requires block { BegunBelow (length self.old.nodes) block }
         ensures gave { Gave
-            (ended (begun_in self.old.nodes block) (node_tree (tree_in self.old.nodes) 0 line node) (stack_in self.old) (mark_of kind))
-            (ended (begun_in self.old.nodes block) (node_tree (tree_in self.old.nodes) 0 line node) (stack_in self.old) (mark_of kind))
+            (ended (begun_in self.old.nodes block) (node_tree (tree_in self.old.nodes) 0 line node) (stack_in self.old) (terminal_of kind))
+            (ended (begun_in self.old.nodes block) (node_tree (tree_in self.old.nodes) 0 line node) (stack_in self.old) (terminal_of kind))
             result self.new }
         ensures once { Spends (λ w. begun_weight w block + parts_weight w node) self.old result self.new }
     {
@@ -269,9 +269,9 @@ impl Parser {
         requires body { body < length self.old.nodes }
         ensures gave { Gave
             (end_block (InThen line (cases_of (tree_in self.old.nodes) tests blocks) (tree_in self.old.nodes test) (begun_in self.old.nodes block) ∷ stack_in self.old)
-            (tree_in self.old.nodes body) (mark_of kind) (place true 0 []))
+            (tree_in self.old.nodes body) (terminal_of kind) (attributes true 0 []))
             (end_block (InThen line (cases_of (tree_in self.old.nodes) tests blocks) (tree_in self.old.nodes test) (begun_in self.old.nodes block) ∷ stack_in self.old)
-            (tree_in self.old.nodes body) (mark_of kind) (place false 0 []))
+            (tree_in self.old.nodes body) (terminal_of kind) (attributes false 0 []))
             result self.new }
         ensures once { Spends (λ w. cases_weight w tests blocks + w test + begun_weight w block + w body) self.old result self.new }
     {
@@ -292,8 +292,8 @@ impl Parser {
         requires cases { CasesBelow (length self.old.nodes) tests blocks }
         requires block { BegunBelow (length self.old.nodes) block }
         ensures gave { Gave
-            (after_cases line (cases_of (tree_in self.old.nodes) tests blocks) (begun_in self.old.nodes block) (stack_in self.old) (mark_of kind) (place true 0 []))
-            (after_cases line (cases_of (tree_in self.old.nodes) tests blocks) (begun_in self.old.nodes block) (stack_in self.old) (mark_of kind) (place false 0 []))
+            (after_cases line (cases_of (tree_in self.old.nodes) tests blocks) (begun_in self.old.nodes block) (stack_in self.old) (terminal_of kind) (attributes true 0 []))
+            (after_cases line (cases_of (tree_in self.old.nodes) tests blocks) (begun_in self.old.nodes block) (stack_in self.old) (terminal_of kind) (attributes false 0 []))
             result self.new }
         ensures once { Spends (λ w. cases_weight w tests blocks + begun_weight w block) self.old result self.new }
     {

@@ -6,7 +6,7 @@ ghost use Rattle.lua_ast.specs.Decode.{list_of, fields_of, AllBelow};
 ghost use Rattle.lua_grammar.specs.Signs.{token};
 ghost use Rattle.lua_lexer.specs.declared.token.TokenKind.TheVariants.{Text};
 ghost use Rattle.lua_grammar.specs.Pushdown.{Have, call_of, args_begin, made, field_done};
-ghost use Rattle.lua_parser.specs.Shown.{tree_in, stack_in, state_in, callee_in, purpose_in, place, CalleeBelow, TableBelow, StateBelow};
+ghost use Rattle.lua_parser.specs.Shown.{tree_in, stack_in, state_in, callee_in, purpose_in, attributes, CalleeBelow, TableBelow, StateBelow};
 ghost use Rattle.lua_parser.specs.Gave.{Gave};
 ghost use Rattle.lua_ast.specs.Weights.{list_weight};
 ghost use Rattle.lua_parser.specs.Weights.{Spends, callee_weight, table_weight};
@@ -67,8 +67,8 @@ impl Parser {
     ) -> Result<State, Refusal>
         requires { CalleeBelow (length self.old.nodes) callee }
         ensures gave { Gave
-            (args_begin limit (callee_in self.old.nodes callee) (stack_in self.old) (token Text) (place true line slice.now))
-            (args_begin limit (callee_in self.old.nodes callee) (stack_in self.old) (token Text) (place false line slice.now))
+            (args_begin limit (callee_in self.old.nodes callee) (stack_in self.old) (token Text) (attributes true line slice.now))
+            (args_begin limit (callee_in self.old.nodes callee) (stack_in self.old) (token Text) (attributes false line slice.now))
             result self.new }
         ensures once { Spends (λ w. callee_weight w callee) self.old result self.new }
     {
@@ -90,8 +90,8 @@ impl Parser {
     ) -> Result<State, Refusal>
         requires { CalleeBelow (length self.old.nodes) callee }
         ensures gave { Gave
-            (args_begin limit (callee_in self.old.nodes callee) (stack_in self.old) (token kind) (place true line slice.now))
-            (args_begin limit (callee_in self.old.nodes callee) (stack_in self.old) (token kind) (place false line slice.now))
+            (args_begin limit (callee_in self.old.nodes callee) (stack_in self.old) (token kind) (attributes true line slice.now))
+            (args_begin limit (callee_in self.old.nodes callee) (stack_in self.old) (token kind) (attributes false line slice.now))
             result self.new }
         ensures once { Spends (λ w. callee_weight w callee) self.old result self.new }
     {

@@ -3,8 +3,8 @@
 ghost use Rattle.std.specs.Prelude.{◌+◌, ◌<◌, [], true, false, length, Some, None};
 ghost use Rattle.lua_ast.specs.Decode.{list_of, fields_of, AllBelow};
 ghost use Rattle.lua_grammar.specs.Pushdown.{InParen, InIndex, InArgs, InKey, InTargets, InLocal, InAssign, InReturn, InStat, close};
-ghost use Rattle.lua_parser.specs.Shown.{tree_in, stack_in, begun_in, callee_in, purpose_in, statement_in, place, BegunBelow, CalleeBelow, TableBelow, StatementBelow};
-ghost use Rattle.lua_parser.specs.Gave.{Gave, call_statement, mark_of};
+ghost use Rattle.lua_parser.specs.Shown.{tree_in, stack_in, begun_in, callee_in, purpose_in, statement_in, attributes, BegunBelow, CalleeBelow, TableBelow, StatementBelow};
+ghost use Rattle.lua_parser.specs.Gave.{Gave, call_statement, terminal_of};
 ghost use Rattle.lua_ast.specs.Weights.{list_weight};
 ghost use Rattle.lua_parser.specs.Weights.{Spends, begun_weight, callee_weight, statement_weight, table_weight};
 
@@ -26,8 +26,8 @@ impl Parser {
     ) -> Result<State, Refusal>
         requires { had < length self.old.nodes }
         ensures gave { Gave
-            (close (InParen limit line) (tree_in self.old.nodes had) (stack_in self.old) (mark_of kind) (place true 0 []))
-            (close (InParen limit line) (tree_in self.old.nodes had) (stack_in self.old) (mark_of kind) (place false 0 []))
+            (close (InParen limit line) (tree_in self.old.nodes had) (stack_in self.old) (terminal_of kind) (attributes true 0 []))
+            (close (InParen limit line) (tree_in self.old.nodes had) (stack_in self.old) (terminal_of kind) (attributes false 0 []))
             result self.new }
         ensures once { Spends (λ w. w had) self.old result self.new }
     {
@@ -48,8 +48,8 @@ impl Parser {
         requires object { object < length self.old.nodes }
         requires had { had < length self.old.nodes }
         ensures gave { Gave
-            (close (InIndex limit (tree_in self.old.nodes object)) (tree_in self.old.nodes had) (stack_in self.old) (mark_of kind) (place true 0 []))
-            (close (InIndex limit (tree_in self.old.nodes object)) (tree_in self.old.nodes had) (stack_in self.old) (mark_of kind) (place false 0 []))
+            (close (InIndex limit (tree_in self.old.nodes object)) (tree_in self.old.nodes had) (stack_in self.old) (terminal_of kind) (attributes true 0 []))
+            (close (InIndex limit (tree_in self.old.nodes object)) (tree_in self.old.nodes had) (stack_in self.old) (terminal_of kind) (attributes false 0 []))
             result self.new }
         ensures once { Spends (λ w. w object + w had) self.old result self.new }
     {
@@ -76,8 +76,8 @@ impl Parser {
         requires args { AllBelow (length self.old.nodes) args }
         requires had { had < length self.old.nodes }
         ensures gave { Gave
-            (close (InArgs limit (callee_in self.old.nodes callee) (list_of (tree_in self.old.nodes) args)) (tree_in self.old.nodes had) (stack_in self.old) (mark_of kind) (place true 0 []))
-            (close (InArgs limit (callee_in self.old.nodes callee) (list_of (tree_in self.old.nodes) args)) (tree_in self.old.nodes had) (stack_in self.old) (mark_of kind) (place false 0 []))
+            (close (InArgs limit (callee_in self.old.nodes callee) (list_of (tree_in self.old.nodes) args)) (tree_in self.old.nodes had) (stack_in self.old) (terminal_of kind) (attributes true 0 []))
+            (close (InArgs limit (callee_in self.old.nodes callee) (list_of (tree_in self.old.nodes) args)) (tree_in self.old.nodes had) (stack_in self.old) (terminal_of kind) (attributes false 0 []))
             result self.new }
         ensures once { Spends (λ w. callee_weight w callee + list_weight w args + w had) self.old result self.new }
     {
@@ -106,8 +106,8 @@ impl Parser {
         requires table { TableBelow (length self.old.nodes) table }
         requires had { had < length self.old.nodes }
         ensures gave { Gave
-            (close (InKey (purpose_in self.old.nodes table.purpose) table.line (fields_of (tree_in self.old.nodes) table.fields)) (tree_in self.old.nodes had) (stack_in self.old) (mark_of kind) (place true 0 []))
-            (close (InKey (purpose_in self.old.nodes table.purpose) table.line (fields_of (tree_in self.old.nodes) table.fields)) (tree_in self.old.nodes had) (stack_in self.old) (mark_of kind) (place false 0 []))
+            (close (InKey (purpose_in self.old.nodes table.purpose) table.line (fields_of (tree_in self.old.nodes) table.fields)) (tree_in self.old.nodes had) (stack_in self.old) (terminal_of kind) (attributes true 0 []))
+            (close (InKey (purpose_in self.old.nodes table.purpose) table.line (fields_of (tree_in self.old.nodes) table.fields)) (tree_in self.old.nodes had) (stack_in self.old) (terminal_of kind) (attributes false 0 []))
             result self.new }
         ensures once { Spends (λ w. table_weight w table + w had) self.old result self.new }
     {
@@ -129,8 +129,8 @@ impl Parser {
         requires statement { StatementBelow (length self.old.nodes) statement }
         requires had { had < length self.old.nodes }
         ensures gave { Gave
-            (close (statement_in self.old.nodes statement) (tree_in self.old.nodes had) (stack_in self.old) (mark_of kind) (place true line slice.now))
-            (close (statement_in self.old.nodes statement) (tree_in self.old.nodes had) (stack_in self.old) (mark_of kind) (place false line slice.now))
+            (close (statement_in self.old.nodes statement) (tree_in self.old.nodes had) (stack_in self.old) (terminal_of kind) (attributes true line slice.now))
+            (close (statement_in self.old.nodes statement) (tree_in self.old.nodes had) (stack_in self.old) (terminal_of kind) (attributes false line slice.now))
             result self.new }
         ensures once { Spends (λ w. statement_weight w statement + w had) self.old result self.new }
     {
@@ -187,8 +187,8 @@ impl Parser {
         requires block { BegunBelow (length self.old.nodes) block }
         requires had { had < length self.old.nodes }
         ensures gave { Gave
-            (close (InLocal own names (list_of (tree_in self.old.nodes) exps) (begun_in self.old.nodes block)) (tree_in self.old.nodes had) (stack_in self.old) (mark_of kind) (place true line slice.now))
-            (close (InLocal own names (list_of (tree_in self.old.nodes) exps) (begun_in self.old.nodes block)) (tree_in self.old.nodes had) (stack_in self.old) (mark_of kind) (place false line slice.now))
+            (close (InLocal own names (list_of (tree_in self.old.nodes) exps) (begun_in self.old.nodes block)) (tree_in self.old.nodes had) (stack_in self.old) (terminal_of kind) (attributes true line slice.now))
+            (close (InLocal own names (list_of (tree_in self.old.nodes) exps) (begun_in self.old.nodes block)) (tree_in self.old.nodes had) (stack_in self.old) (terminal_of kind) (attributes false line slice.now))
             result self.new }
         ensures once { Spends (λ w. list_weight w exps + begun_weight w block + w had) self.old result self.new }
     {
@@ -235,8 +235,8 @@ impl Parser {
         requires block { BegunBelow (length self.old.nodes) block }
         requires had { had < length self.old.nodes }
         ensures gave { Gave
-            (close (InAssign own (list_of (tree_in self.old.nodes) targets) (list_of (tree_in self.old.nodes) exps) (begun_in self.old.nodes block)) (tree_in self.old.nodes had) (stack_in self.old) (mark_of kind) (place true line slice.now))
-            (close (InAssign own (list_of (tree_in self.old.nodes) targets) (list_of (tree_in self.old.nodes) exps) (begun_in self.old.nodes block)) (tree_in self.old.nodes had) (stack_in self.old) (mark_of kind) (place false line slice.now))
+            (close (InAssign own (list_of (tree_in self.old.nodes) targets) (list_of (tree_in self.old.nodes) exps) (begun_in self.old.nodes block)) (tree_in self.old.nodes had) (stack_in self.old) (terminal_of kind) (attributes true line slice.now))
+            (close (InAssign own (list_of (tree_in self.old.nodes) targets) (list_of (tree_in self.old.nodes) exps) (begun_in self.old.nodes block)) (tree_in self.old.nodes had) (stack_in self.old) (terminal_of kind) (attributes false line slice.now))
             result self.new }
         ensures once { Spends (λ w. list_weight w targets + list_weight w exps + begun_weight w block + w had) self.old result self.new }
     {
@@ -286,8 +286,8 @@ impl Parser {
         requires block { BegunBelow (length self.old.nodes) block }
         requires had { had < length self.old.nodes }
         ensures gave { Gave
-            (close (InReturn own (list_of (tree_in self.old.nodes) exps) (begun_in self.old.nodes block)) (tree_in self.old.nodes had) (stack_in self.old) (mark_of kind) (place true 0 []))
-            (close (InReturn own (list_of (tree_in self.old.nodes) exps) (begun_in self.old.nodes block)) (tree_in self.old.nodes had) (stack_in self.old) (mark_of kind) (place false 0 []))
+            (close (InReturn own (list_of (tree_in self.old.nodes) exps) (begun_in self.old.nodes block)) (tree_in self.old.nodes had) (stack_in self.old) (terminal_of kind) (attributes true 0 []))
+            (close (InReturn own (list_of (tree_in self.old.nodes) exps) (begun_in self.old.nodes block)) (tree_in self.old.nodes had) (stack_in self.old) (terminal_of kind) (attributes false 0 []))
             result self.new }
         ensures once { Spends (λ w. list_weight w exps + begun_weight w block + w had) self.old result self.new }
     {
@@ -325,8 +325,8 @@ impl Parser {
         requires block { BegunBelow (length self.old.nodes) block }
         requires had { had < length self.old.nodes }
         ensures gave { Gave
-            (close (InStat (begun_in self.old.nodes block)) (tree_in self.old.nodes had) (stack_in self.old) (mark_of kind) (place true line slice.now))
-            (close (InStat (begun_in self.old.nodes block)) (tree_in self.old.nodes had) (stack_in self.old) (mark_of kind) (place false line slice.now))
+            (close (InStat (begun_in self.old.nodes block)) (tree_in self.old.nodes had) (stack_in self.old) (terminal_of kind) (attributes true line slice.now))
+            (close (InStat (begun_in self.old.nodes block)) (tree_in self.old.nodes had) (stack_in self.old) (terminal_of kind) (attributes false line slice.now))
             result self.new }
         ensures once { Spends (λ w. begun_weight w block + w had) self.old result self.new }
     {
@@ -356,8 +356,8 @@ impl Parser {
         requires block { BegunBelow (length self.old.nodes) block }
         requires had { had < length self.old.nodes }
         ensures gave { Gave
-            (call_statement own (tree_in self.old.nodes had) (begun_in self.old.nodes block) (stack_in self.old) (mark_of kind) (place true line slice.now))
-            (call_statement own (tree_in self.old.nodes had) (begun_in self.old.nodes block) (stack_in self.old) (mark_of kind) (place false line slice.now))
+            (call_statement own (tree_in self.old.nodes had) (begun_in self.old.nodes block) (stack_in self.old) (terminal_of kind) (attributes true line slice.now))
+            (call_statement own (tree_in self.old.nodes had) (begun_in self.old.nodes block) (stack_in self.old) (terminal_of kind) (attributes false line slice.now))
             result self.new }
         ensures once { Spends (λ w. begun_weight w block + w had) self.old result self.new }
     {
@@ -380,8 +380,8 @@ impl Parser {
         requires block { BegunBelow (length self.old.nodes) block }
         requires had { had < length self.old.nodes }
         ensures gave { Gave
-            (close (InTargets own (list_of (tree_in self.old.nodes) targets) (begun_in self.old.nodes block)) (tree_in self.old.nodes had) (stack_in self.old) (mark_of kind) (place true 0 []))
-            (close (InTargets own (list_of (tree_in self.old.nodes) targets) (begun_in self.old.nodes block)) (tree_in self.old.nodes had) (stack_in self.old) (mark_of kind) (place false 0 []))
+            (close (InTargets own (list_of (tree_in self.old.nodes) targets) (begun_in self.old.nodes block)) (tree_in self.old.nodes had) (stack_in self.old) (terminal_of kind) (attributes true 0 []))
+            (close (InTargets own (list_of (tree_in self.old.nodes) targets) (begun_in self.old.nodes block)) (tree_in self.old.nodes had) (stack_in self.old) (terminal_of kind) (attributes false 0 []))
             result self.new }
         ensures once { Spends (λ w. list_weight w targets + begun_weight w block + w had) self.old result self.new }
     {
@@ -405,8 +405,8 @@ impl Parser {
         requires block { BegunBelow (length self.old.nodes) block }
         requires had { had < length self.old.nodes }
         ensures gave { Gave
-            (close (InTargets own (list_of (tree_in self.old.nodes) targets) (begun_in self.old.nodes block)) (tree_in self.old.nodes had) (stack_in self.old) (mark_of (Some token)) (place true 0 []))
-            (close (InTargets own (list_of (tree_in self.old.nodes) targets) (begun_in self.old.nodes block)) (tree_in self.old.nodes had) (stack_in self.old) (mark_of (Some token)) (place false 0 []))
+            (close (InTargets own (list_of (tree_in self.old.nodes) targets) (begun_in self.old.nodes block)) (tree_in self.old.nodes had) (stack_in self.old) (terminal_of (Some token)) (attributes true 0 []))
+            (close (InTargets own (list_of (tree_in self.old.nodes) targets) (begun_in self.old.nodes block)) (tree_in self.old.nodes had) (stack_in self.old) (terminal_of (Some token)) (attributes false 0 []))
             result self.new }
         ensures once { Spends (λ w. list_weight w targets + begun_weight w block + w had) self.old result self.new }
     {

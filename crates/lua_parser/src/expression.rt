@@ -3,7 +3,7 @@
 ghost use Rattle.std.specs.Prelude.{[], true, false, Some, None};
 ghost use Rattle.lua_grammar.specs.Signs.{token};
 ghost use Rattle.lua_grammar.specs.Pushdown.{begin, begin_unary};
-ghost use Rattle.lua_parser.specs.Shown.{stack_in, place};
+ghost use Rattle.lua_parser.specs.Shown.{stack_in, attributes};
 ghost use Rattle.lua_parser.specs.Gave.{Gave, IsSmall};
 ghost use Rattle.lua_parser.specs.Weights.{Spends};
 
@@ -26,8 +26,8 @@ impl Parser {
         slice: &[u8],
     ) -> Result<State, Refusal>
         requires { IsSmall kind slice.now }
-        ensures gave { Gave (begin limit (stack_in self.old) (token kind) (place true line slice.now))
-            (begin limit (stack_in self.old) (token kind) (place false line slice.now)) result self.new }
+        ensures gave { Gave (begin limit (stack_in self.old) (token kind) (attributes true line slice.now))
+            (begin limit (stack_in self.old) (token kind) (attributes false line slice.now)) result self.new }
         ensures once { Spends (λ _. 0) self.old result self.new }
     {
         match kind {
@@ -56,8 +56,8 @@ impl Parser {
     }
 
     fn begin_unary(&mut self, limit: u8, op: Option<UnOp>, line: u32) -> Result<State, Refusal>
-        ensures gave { Gave (begin_unary limit (stack_in self.old) (place true line []) op)
-            (begin_unary limit (stack_in self.old) (place false line []) op) result self.new }
+        ensures gave { Gave (begin_unary limit (stack_in self.old) (attributes true line []) op)
+            (begin_unary limit (stack_in self.old) (attributes false line []) op) result self.new }
         ensures once { Spends (λ _. 0) self.old result self.new }
     {
         let Some(op) = op else {

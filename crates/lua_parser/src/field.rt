@@ -4,8 +4,8 @@ ghost use Rattle.std.specs.Prelude.{◌+◌, ◌<◌, true, false, length, Some,
 ghost use Rattle.lua_ast.specs.Decode.{fields_of, with_field, FieldBelow};
 ghost use Rattle.lua_grammar.specs.Signs.{token};
 ghost use Rattle.lua_grammar.specs.Pushdown.{args_open, field_next, field_done, key_end};
-ghost use Rattle.lua_parser.specs.Shown.{tree_in, stack_in, callee_in, purpose_in, place, CalleeBelow, TableBelow};
-ghost use Rattle.lua_parser.specs.Gave.{Gave, IsSmall, mark_of};
+ghost use Rattle.lua_parser.specs.Shown.{tree_in, stack_in, callee_in, purpose_in, attributes, CalleeBelow, TableBelow};
+ghost use Rattle.lua_parser.specs.Gave.{Gave, IsSmall, terminal_of};
 ghost use Rattle.lua_ast.specs.Weights.{field_weight};
 ghost use Rattle.lua_parser.specs.Weights.{Spends, callee_weight, table_weight};
 
@@ -30,8 +30,8 @@ impl Parser {
         requires callee { CalleeBelow (length self.old.nodes) callee }
         requires small { IsSmall kind slice.now }
         ensures gave { Gave
-            (args_open limit (callee_in self.old.nodes callee) (stack_in self.old) (token kind) (place true line slice.now))
-            (args_open limit (callee_in self.old.nodes callee) (stack_in self.old) (token kind) (place false line slice.now))
+            (args_open limit (callee_in self.old.nodes callee) (stack_in self.old) (token kind) (attributes true line slice.now))
+            (args_open limit (callee_in self.old.nodes callee) (stack_in self.old) (token kind) (attributes false line slice.now))
             result self.new }
         ensures once { Spends (λ w. callee_weight w callee) self.old result self.new }
     {
@@ -62,8 +62,8 @@ impl Parser {
         requires table { TableBelow (length self.old.nodes) table }
         requires small { IsSmall kind slice.now }
         ensures gave { Gave
-            (field_next (purpose_in self.old.nodes table.purpose) table.line (fields_of (tree_in self.old.nodes) table.fields) (stack_in self.old) (token kind) (place true line slice.now))
-            (field_next (purpose_in self.old.nodes table.purpose) table.line (fields_of (tree_in self.old.nodes) table.fields) (stack_in self.old) (token kind) (place false line slice.now))
+            (field_next (purpose_in self.old.nodes table.purpose) table.line (fields_of (tree_in self.old.nodes) table.fields) (stack_in self.old) (token kind) (attributes true line slice.now))
+            (field_next (purpose_in self.old.nodes table.purpose) table.line (fields_of (tree_in self.old.nodes) table.fields) (stack_in self.old) (token kind) (attributes false line slice.now))
             result self.new }
         ensures once { Spends (λ w. table_weight w table) self.old result self.new }
     {
@@ -117,8 +117,8 @@ impl Parser {
         requires table { TableBelow (length self.old.nodes) table }
         requires field { FieldBelow (length self.old.nodes) field }
         ensures gave { Gave
-            (field_done (purpose_in self.old.nodes table.purpose) table.line (with_field (tree_in self.old.nodes) (fields_of (tree_in self.old.nodes) table.fields) field) (stack_in self.old) (mark_of kind))
-            (field_done (purpose_in self.old.nodes table.purpose) table.line (with_field (tree_in self.old.nodes) (fields_of (tree_in self.old.nodes) table.fields) field) (stack_in self.old) (mark_of kind))
+            (field_done (purpose_in self.old.nodes table.purpose) table.line (with_field (tree_in self.old.nodes) (fields_of (tree_in self.old.nodes) table.fields) field) (stack_in self.old) (terminal_of kind))
+            (field_done (purpose_in self.old.nodes table.purpose) table.line (with_field (tree_in self.old.nodes) (fields_of (tree_in self.old.nodes) table.fields) field) (stack_in self.old) (terminal_of kind))
             result self.new }
         ensures once { Spends (λ w. table_weight w table + field_weight w field) self.old result self.new }
     {

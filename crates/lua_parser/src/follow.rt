@@ -5,8 +5,8 @@ ghost use Rattle.lua_grammar.specs.Pushdown.{close, follow, rest, field_name};
 ghost use Rattle.lua_grammar.specs.Operators.{joined};
 ghost use Rattle.lua_grammar.specs.Signs.{token};
 ghost use Rattle.lua_ast.specs.Decode.{fields_of};
-ghost use Rattle.lua_parser.specs.Shown.{tree_in, stack_in, frame_in, operator_in, purpose_in, place, TableBelow, FrameBelow};
-ghost use Rattle.lua_parser.specs.Gave.{Gave, mark_of};
+ghost use Rattle.lua_parser.specs.Shown.{tree_in, stack_in, frame_in, operator_in, purpose_in, attributes, TableBelow, FrameBelow};
+ghost use Rattle.lua_parser.specs.Gave.{Gave, terminal_of};
 ghost use Rattle.lua_parser.specs.Follows.{Folds, IsKept, IsFewer, Follows};
 ghost use Rattle.lua_parser.specs.Weights.{Balances, FoldsOnce, FollowsOnce, Spends, frame_weight, table_weight};
 
@@ -32,8 +32,8 @@ impl Parser {
         requires frame { FrameBelow (length self.old.nodes) frame }
         requires had { had < length self.old.nodes }
         ensures gave { Gave
-            (close (frame_in self.old.nodes frame) (tree_in self.old.nodes had) (stack_in self.old) (mark_of kind) (place true line slice.now))
-            (close (frame_in self.old.nodes frame) (tree_in self.old.nodes had) (stack_in self.old) (mark_of kind) (place false line slice.now))
+            (close (frame_in self.old.nodes frame) (tree_in self.old.nodes had) (stack_in self.old) (terminal_of kind) (attributes true line slice.now))
+            (close (frame_in self.old.nodes frame) (tree_in self.old.nodes had) (stack_in self.old) (terminal_of kind) (attributes false line slice.now))
             result self.new }
         ensures once { Spends (λ w. frame_weight w frame + w had) self.old result self.new }
     {
@@ -122,9 +122,9 @@ impl Parser {
     ) -> Result<Followed, Refusal>
         requires { had < length self.old.nodes }
         ensures follows { Follows
-            (follow (stack_in self.old) limit (tree_in self.old.nodes had) (mark_of kind) (place true line slice.now))
-            (follow (stack_in self.old) limit (tree_in self.old.nodes had) (mark_of kind) (place false line slice.now))
-            (mark_of kind) line slice.now (length self.old.frames) result self.new }
+            (follow (stack_in self.old) limit (tree_in self.old.nodes had) (terminal_of kind) (attributes true line slice.now))
+            (follow (stack_in self.old) limit (tree_in self.old.nodes had) (terminal_of kind) (attributes false line slice.now))
+            (terminal_of kind) line slice.now (length self.old.frames) result self.new }
         ensures once { FollowsOnce had self.old result self.new }
     {
         match self.suffix_at(limit, had, kind) {
@@ -146,9 +146,9 @@ impl Parser {
     ) -> Result<Followed, Refusal>
         requires { had < length self.old.nodes }
         ensures follows { Follows
-            (rest (stack_in self.old) (tree_in self.old.nodes had) (mark_of kind) (place true line slice.now))
-            (rest (stack_in self.old) (tree_in self.old.nodes had) (mark_of kind) (place false line slice.now))
-            (mark_of kind) line slice.now (length self.old.frames) result self.new }
+            (rest (stack_in self.old) (tree_in self.old.nodes had) (terminal_of kind) (attributes true line slice.now))
+            (rest (stack_in self.old) (tree_in self.old.nodes had) (terminal_of kind) (attributes false line slice.now))
+            (terminal_of kind) line slice.now (length self.old.frames) result self.new }
         ensures once { FollowsOnce had self.old result self.new }
     {
         match self.fold(had)? {
@@ -172,8 +172,8 @@ impl Parser {
     ) -> Result<State, Refusal>
         requires { had < length self.old.nodes }
         ensures gave { Gave
-            (follow (stack_in self.old) limit (tree_in self.old.nodes had) (mark_of kind) (place true line slice.now))
-            (follow (stack_in self.old) limit (tree_in self.old.nodes had) (mark_of kind) (place false line slice.now))
+            (follow (stack_in self.old) limit (tree_in self.old.nodes had) (terminal_of kind) (attributes true line slice.now))
+            (follow (stack_in self.old) limit (tree_in self.old.nodes had) (terminal_of kind) (attributes false line slice.now))
             result self.new }
         ensures once { Spends (λ w. w had) self.old result self.new }
     {
@@ -199,8 +199,8 @@ impl Parser {
     ) -> Result<State, Refusal>
         requires table { TableBelow (length self.old.nodes) table }
         ensures gave { Gave
-            (field_name (purpose_in self.old.nodes table.purpose) table.line (fields_of (tree_in self.old.nodes) table.fields) own name (stack_in self.old) (token kind) (place true line slice.now))
-            (field_name (purpose_in self.old.nodes table.purpose) table.line (fields_of (tree_in self.old.nodes) table.fields) own name (stack_in self.old) (token kind) (place false line slice.now))
+            (field_name (purpose_in self.old.nodes table.purpose) table.line (fields_of (tree_in self.old.nodes) table.fields) own name (stack_in self.old) (token kind) (attributes true line slice.now))
+            (field_name (purpose_in self.old.nodes table.purpose) table.line (fields_of (tree_in self.old.nodes) table.fields) own name (stack_in self.old) (token kind) (attributes false line slice.now))
             result self.new }
         ensures once { Spends (λ w. table_weight w table) self.old result self.new }
     {

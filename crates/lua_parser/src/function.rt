@@ -5,7 +5,7 @@ ghost use Rattle.lua_ast.specs.Tree.{Function, Assign, LocalFunction, none, snoc
 ghost use Rattle.lua_ast.specs.Decode.{PartsBelow, node_tree};
 ghost use Rattle.lua_grammar.specs.Signs.{token};
 ghost use Rattle.lua_grammar.specs.Pushdown.{BlockNext, StatNext, InFunction, add, depth, finished, own_line, given_of, body_next, path_next, param_first, param_next, param_names, params_end};
-ghost use Rattle.lua_parser.specs.Shown.{tree_in, stack_in, state_in, begun_in, head_in, given, place, BegunBelow, HeadBelow, StateBelow};
+ghost use Rattle.lua_parser.specs.Shown.{tree_in, stack_in, state_in, begun_in, head_in, given, attributes, BegunBelow, HeadBelow, StateBelow};
 ghost use Rattle.lua_parser.specs.Gave.{Gave, within};
 ghost use Rattle.lua_ast.specs.Weights.{parts_weight};
 ghost use Rattle.lua_parser.specs.Weights.{Spends, StepsOnce, begun_weight, head_weight};
@@ -37,8 +37,8 @@ impl Parser {
     pub fn body_next(&mut self, head: Head, kind: TokenKind) -> Result<State, Refusal>
         requires { HeadBelow (length self.old.nodes) head }
         ensures gave { Gave
-            (body_next (head_in self.old.nodes head) (stack_in self.old) (token kind) (place true 0 []))
-            (body_next (head_in self.old.nodes head) (stack_in self.old) (token kind) (place false 0 []))
+            (body_next (head_in self.old.nodes head) (stack_in self.old) (token kind) (attributes true 0 []))
+            (body_next (head_in self.old.nodes head) (stack_in self.old) (token kind) (attributes false 0 []))
             result self.new }
         ensures once { Spends (λ w. head_weight w head) self.old result self.new }
     {
@@ -59,8 +59,8 @@ impl Parser {
         requires path { path < length self.old.nodes }
         requires block { BegunBelow (length self.old.nodes) block }
         ensures gave { Gave
-            (path_next line (tree_in self.old.nodes path) (begun_in self.old.nodes block) (stack_in self.old) (token kind) (place true 0 []))
-            (path_next line (tree_in self.old.nodes path) (begun_in self.old.nodes block) (stack_in self.old) (token kind) (place false 0 []))
+            (path_next line (tree_in self.old.nodes path) (begun_in self.old.nodes block) (stack_in self.old) (token kind) (attributes true 0 []))
+            (path_next line (tree_in self.old.nodes path) (begun_in self.old.nodes block) (stack_in self.old) (token kind) (attributes false 0 []))
             result self.new }
         ensures once { Spends (λ w. w path + begun_weight w block) self.old result self.new }
     {
@@ -92,8 +92,8 @@ impl Parser {
     ) -> Result<State, Refusal>
         requires { HeadBelow (length self.old.nodes) head }
         ensures gave { Gave
-            (param_first (head_in self.old.nodes head) (stack_in self.old) (token kind) (place true 0 slice.now))
-            (param_first (head_in self.old.nodes head) (stack_in self.old) (token kind) (place false 0 slice.now))
+            (param_first (head_in self.old.nodes head) (stack_in self.old) (token kind) (attributes true 0 slice.now))
+            (param_first (head_in self.old.nodes head) (stack_in self.old) (token kind) (attributes false 0 slice.now))
             result self.new }
         ensures once { Spends (λ w. head_weight w head) self.old result self.new }
     {
@@ -120,8 +120,8 @@ impl Parser {
     ) -> Result<State, Refusal>
         requires { HeadBelow (length self.old.nodes) head }
         ensures gave { Gave
-            (param_next (head_in self.old.nodes head) params.items (stack_in self.old) (token kind) (place true 0 slice.now))
-            (param_next (head_in self.old.nodes head) params.items (stack_in self.old) (token kind) (place false 0 slice.now))
+            (param_next (head_in self.old.nodes head) params.items (stack_in self.old) (token kind) (attributes true 0 slice.now))
+            (param_next (head_in self.old.nodes head) params.items (stack_in self.old) (token kind) (attributes false 0 slice.now))
             result self.new }
         ensures once { Spends (λ w. head_weight w head) self.old result self.new }
     {

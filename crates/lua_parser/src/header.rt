@@ -3,9 +3,9 @@
 ghost use Rattle.std.specs.Prelude.{◌+◌, ◌<◌, [], ℕ, List, true, false, length};
 ghost use Rattle.lua_ast.specs.Decode.{cases_of};
 ghost use Rattle.lua_grammar.specs.Pushdown.{InWhileTest, InIfTest, InFirst, InLimit, InStep, close};
-ghost use Rattle.lua_parser.specs.Shown.{tree_in, stack_in, begun_in, header_in, place, BegunBelow, CasesBelow, HeaderBelow};
+ghost use Rattle.lua_parser.specs.Shown.{tree_in, stack_in, begun_in, header_in, attributes, BegunBelow, CasesBelow, HeaderBelow};
 ghost use Rattle.lua_parser.specs.declared.frame.OpenHeader.TheVariants.{Iterator};
-ghost use Rattle.lua_parser.specs.Gave.{Gave, mark_of};
+ghost use Rattle.lua_parser.specs.Gave.{Gave, terminal_of};
 ghost use Rattle.lua_ast.specs.Weights.{list_weight, cases_weight};
 ghost use Rattle.lua_parser.specs.Weights.{Spends, begun_weight, header_weight};
 
@@ -27,8 +27,8 @@ impl Parser {
         requires header { HeaderBelow (length self.old.nodes) header }
         requires had { had < length self.old.nodes }
         ensures gave { (line : ℕ) (slice : List ℕ) → Gave
-            (close (header_in self.old.nodes header) (tree_in self.old.nodes had) (stack_in self.old) (mark_of kind) (place true line slice))
-            (close (header_in self.old.nodes header) (tree_in self.old.nodes had) (stack_in self.old) (mark_of kind) (place false line slice))
+            (close (header_in self.old.nodes header) (tree_in self.old.nodes had) (stack_in self.old) (terminal_of kind) (attributes true line slice))
+            (close (header_in self.old.nodes header) (tree_in self.old.nodes had) (stack_in self.old) (terminal_of kind) (attributes false line slice))
             result self.new }
         ensures once { Spends (λ w. header_weight w header + w had) self.old result self.new }
     {
@@ -71,8 +71,8 @@ impl Parser {
         requires block { BegunBelow (length self.old.nodes) block }
         requires had { had < length self.old.nodes }
         ensures gave { Gave
-            (close (InWhileTest line (begun_in self.old.nodes block)) (tree_in self.old.nodes had) (stack_in self.old) (mark_of kind) (place true 0 []))
-            (close (InWhileTest line (begun_in self.old.nodes block)) (tree_in self.old.nodes had) (stack_in self.old) (mark_of kind) (place false 0 []))
+            (close (InWhileTest line (begun_in self.old.nodes block)) (tree_in self.old.nodes had) (stack_in self.old) (terminal_of kind) (attributes true 0 []))
+            (close (InWhileTest line (begun_in self.old.nodes block)) (tree_in self.old.nodes had) (stack_in self.old) (terminal_of kind) (attributes false 0 []))
             result self.new }
         ensures once { Spends (λ w. begun_weight w block + w had) self.old result self.new }
     {
@@ -100,8 +100,8 @@ impl Parser {
         requires block { BegunBelow (length self.old.nodes) block }
         requires had { had < length self.old.nodes }
         ensures gave { Gave
-            (close (InIfTest line (cases_of (tree_in self.old.nodes) tests blocks) (begun_in self.old.nodes block)) (tree_in self.old.nodes had) (stack_in self.old) (mark_of kind) (place true 0 []))
-            (close (InIfTest line (cases_of (tree_in self.old.nodes) tests blocks) (begun_in self.old.nodes block)) (tree_in self.old.nodes had) (stack_in self.old) (mark_of kind) (place false 0 []))
+            (close (InIfTest line (cases_of (tree_in self.old.nodes) tests blocks) (begun_in self.old.nodes block)) (tree_in self.old.nodes had) (stack_in self.old) (terminal_of kind) (attributes true 0 []))
+            (close (InIfTest line (cases_of (tree_in self.old.nodes) tests blocks) (begun_in self.old.nodes block)) (tree_in self.old.nodes had) (stack_in self.old) (terminal_of kind) (attributes false 0 []))
             result self.new }
         ensures once { Spends (λ w. cases_weight w tests blocks + begun_weight w block + w had) self.old result self.new }
     {
@@ -129,8 +129,8 @@ impl Parser {
         requires block { BegunBelow (length self.old.nodes) block }
         requires had { had < length self.old.nodes }
         ensures gave { Gave
-            (close (InFirst line name (begun_in self.old.nodes block)) (tree_in self.old.nodes had) (stack_in self.old) (mark_of kind) (place true 0 []))
-            (close (InFirst line name (begun_in self.old.nodes block)) (tree_in self.old.nodes had) (stack_in self.old) (mark_of kind) (place false 0 []))
+            (close (InFirst line name (begun_in self.old.nodes block)) (tree_in self.old.nodes had) (stack_in self.old) (terminal_of kind) (attributes true 0 []))
+            (close (InFirst line name (begun_in self.old.nodes block)) (tree_in self.old.nodes had) (stack_in self.old) (terminal_of kind) (attributes false 0 []))
             result self.new }
         ensures once { Spends (λ w. begun_weight w block + w had) self.old result self.new }
     {
@@ -162,8 +162,8 @@ impl Parser {
         requires block { BegunBelow (length self.old.nodes) block }
         requires had { had < length self.old.nodes }
         ensures gave { Gave
-            (close (InLimit line name (tree_in self.old.nodes first) (begun_in self.old.nodes block)) (tree_in self.old.nodes had) (stack_in self.old) (mark_of kind) (place true 0 []))
-            (close (InLimit line name (tree_in self.old.nodes first) (begun_in self.old.nodes block)) (tree_in self.old.nodes had) (stack_in self.old) (mark_of kind) (place false 0 []))
+            (close (InLimit line name (tree_in self.old.nodes first) (begun_in self.old.nodes block)) (tree_in self.old.nodes had) (stack_in self.old) (terminal_of kind) (attributes true 0 []))
+            (close (InLimit line name (tree_in self.old.nodes first) (begun_in self.old.nodes block)) (tree_in self.old.nodes had) (stack_in self.old) (terminal_of kind) (attributes false 0 []))
             result self.new }
         ensures once { Spends (λ w. w first + begun_weight w block + w had) self.old result self.new }
     {
@@ -206,8 +206,8 @@ impl Parser {
         requires block { BegunBelow (length self.old.nodes) block }
         requires had { had < length self.old.nodes }
         ensures gave { Gave
-            (close (InStep line name (tree_in self.old.nodes first) (tree_in self.old.nodes last) (begun_in self.old.nodes block)) (tree_in self.old.nodes had) (stack_in self.old) (mark_of kind) (place true 0 []))
-            (close (InStep line name (tree_in self.old.nodes first) (tree_in self.old.nodes last) (begun_in self.old.nodes block)) (tree_in self.old.nodes had) (stack_in self.old) (mark_of kind) (place false 0 []))
+            (close (InStep line name (tree_in self.old.nodes first) (tree_in self.old.nodes last) (begun_in self.old.nodes block)) (tree_in self.old.nodes had) (stack_in self.old) (terminal_of kind) (attributes true 0 []))
+            (close (InStep line name (tree_in self.old.nodes first) (tree_in self.old.nodes last) (begun_in self.old.nodes block)) (tree_in self.old.nodes had) (stack_in self.old) (terminal_of kind) (attributes false 0 []))
             result self.new }
         ensures once { Spends (λ w. w first + w last + begun_weight w block + w had) self.old result self.new }
     {
@@ -235,8 +235,8 @@ impl Parser {
         requires generic { HeaderBelow (length self.old.nodes) (Iterator generic) }
         requires had { had < length self.old.nodes }
         ensures gave { Gave
-            (close (header_in self.old.nodes (Iterator generic)) (tree_in self.old.nodes had) (stack_in self.old) (mark_of kind) (place true 0 []))
-            (close (header_in self.old.nodes (Iterator generic)) (tree_in self.old.nodes had) (stack_in self.old) (mark_of kind) (place false 0 []))
+            (close (header_in self.old.nodes (Iterator generic)) (tree_in self.old.nodes had) (stack_in self.old) (terminal_of kind) (attributes true 0 []))
+            (close (header_in self.old.nodes (Iterator generic)) (tree_in self.old.nodes had) (stack_in self.old) (terminal_of kind) (attributes false 0 []))
             result self.new }
         ensures once { Spends (λ w. list_weight w generic.exps
             + begun_weight w generic.block + w had) self.old result self.new }

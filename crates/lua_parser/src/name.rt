@@ -5,7 +5,7 @@ ghost use Rattle.lua_grammar.specs.Signs.{token};
 ghost use Rattle.lua_grammar.specs.Grammar.{field_of};
 ghost use Rattle.lua_grammar.specs.Pushdown.{after_name, name_next, ForFunction};
 ghost use Rattle.lua_parser.specs.declared.frame.Begun.{Begun as begun};
-ghost use Rattle.lua_parser.specs.Shown.{tree_in, stack_in, state_in, begun_in, naming_in, place, after_path, BegunBelow, NamingBelow, StateBelow};
+ghost use Rattle.lua_parser.specs.Shown.{tree_in, stack_in, state_in, begun_in, naming_in, attributes, after_path, BegunBelow, NamingBelow, StateBelow};
 ghost use Rattle.lua_parser.specs.Gave.{Gave};
 ghost use Rattle.lua_parser.specs.Weights.{Balances, Spends, begun_weight, naming_weight};
 
@@ -31,7 +31,7 @@ impl Parser {
     pub fn field(&mut self, object: NodeId, line: u32, name: AstText) -> Result<NodeId, AllocError>
         requires { object < length self.old.nodes }
         ensures tree { IfOk result (λ id. tree_in self.new.nodes id
-            ≡ field_of (tree_in self.old.nodes object) (place true line name)) }
+            ≡ field_of (tree_in self.old.nodes object) (attributes true line name)) }
         ensures within { IfOk result (λ id. id < length self.new.nodes) }
         ensures stack { OnOk result (stack_in self.new ≡ stack_in self.old) }
         ensures more { OnOk result (length self.old.nodes ≤ length self.new.nodes) }
@@ -60,7 +60,7 @@ impl Parser {
         requires object { object < length self.old.nodes }
         requires block { BegunBelow (length self.old.nodes) block }
         ensures state { IfOk result (λ s. state_in self.new.nodes (stack_in self.new) s
-            ≡ after_path (tree_in self.old.nodes object) method own (begun_in self.old.nodes block) (place true line name) (stack_in self.old)) }
+            ≡ after_path (tree_in self.old.nodes object) method own (begun_in self.old.nodes block) (attributes true line name) (stack_in self.old)) }
         ensures below { IfOk result (λ s. StateBelow (length self.new.nodes) s) }
         ensures once { Spends (λ w. w object + begun_weight w block) self.old result self.new }
     {
@@ -93,7 +93,7 @@ impl Parser {
     ) -> Result<State, AllocError>
         requires { BegunBelow (length self.old.nodes) block }
         ensures state { IfOk result (λ s. state_in self.new.nodes (stack_in self.new) s
-            ≡ after_name (ForFunction own (begun_in self.old.nodes block)) (stack_in self.old) (place true line name)) }
+            ≡ after_name (ForFunction own (begun_in self.old.nodes block)) (stack_in self.old) (attributes true line name)) }
         ensures below { IfOk result (λ s. StateBelow (length self.new.nodes) s) }
         ensures once { Spends (λ w. begun_weight w block) self.old result self.new }
     {
@@ -114,7 +114,7 @@ impl Parser {
     ) -> Result<State, AllocError>
         requires { NamingBelow (length self.old.nodes) naming }
         ensures state { IfOk result (λ s. state_in self.new.nodes (stack_in self.new) s
-            ≡ after_name (naming_in self.old.nodes naming) (stack_in self.old) (place true name_line name)) }
+            ≡ after_name (naming_in self.old.nodes naming) (stack_in self.old) (attributes true name_line name)) }
         ensures below { IfOk result (λ s. StateBelow (length self.new.nodes) s) }
         ensures once { Spends (λ w. naming_weight w naming) self.old result self.new }
     {
@@ -172,8 +172,8 @@ impl Parser {
     ) -> Result<State, Refusal>
         requires { NamingBelow (length self.old.nodes) naming }
         ensures gave { Gave
-            (name_next (naming_in self.old.nodes naming) (stack_in self.old) (token kind) (place true line slice.now))
-            (name_next (naming_in self.old.nodes naming) (stack_in self.old) (token kind) (place false line slice.now))
+            (name_next (naming_in self.old.nodes naming) (stack_in self.old) (token kind) (attributes true line slice.now))
+            (name_next (naming_in self.old.nodes naming) (stack_in self.old) (token kind) (attributes false line slice.now))
             result self.new }
         ensures once { Spends (λ w. naming_weight w naming) self.old result self.new }
     {

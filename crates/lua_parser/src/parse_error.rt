@@ -11,6 +11,6 @@ pub enum ParseError {
     Unexpected(u32),
     /// The first token that opens a 201st level, where the grammar has it.
     TooDeep(u32),
-    /// The text ends where it could go on.
-    EndOfText,
+    /// The text ends where it could go on. It has this many bytes.
+    EndOfText(u32),
 }

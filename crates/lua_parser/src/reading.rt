@@ -8,10 +8,10 @@ ghost use Rattle.lua_grammar.specs.Signs.{end};
 ghost use Rattle.lua_grammar.specs.Parses.{Parses};
 ghost use Rattle.lua_grammar.specs.Pushdown.{step_from};
 ghost use Rattle.lua_grammar.specs.Deciding.{reading, reading_at_end};
-ghost use Rattle.lua_parser.specs.Parsing.{tree_of, HasTree, IsRefusal, Tells, AreFit, refusal_at};
+ghost use Rattle.lua_parser.specs.Parsing.{tree_of, HasTree, IsRefusal, IsAnswer, AreFit, refusal_at};
 ghost use Rattle.lua_ast.specs.Once.{IsEachOnce};
 ghost use Rattle.lua_parser.specs.Weights.{spent_weight, made_weight, accounted};
-ghost use Rattle.lua_parser.specs.Shown.{stack_in, state_in, place, StateBelow};
+ghost use Rattle.lua_parser.specs.Shown.{stack_in, state_in, attributes, StateBelow};
 
 use crate::parse_error::ParseError;
 use crate::parser::Parser;
@@ -36,13 +36,14 @@ pub fn parse(alloc: Global, text: &[u8], tokens: &[Token]) -> Result<Chunk, Pars
 }
 
 fn parse_tokens(alloc: Global, text: &[u8], tokens: &[Token]) -> Result<Chunk, ParseError>
-    requires { AreFit text.now tokens.now }
-    ensures told { Tells tokens.now (reading text.now tokens.now) result }
+    requires size { length text.now ≤ 1048576 }
+    requires fit { AreFit text.now tokens.now }
+    ensures answers { IsAnswer text.now tokens.now (reading text.now tokens.now) result }
     ensures once { IfOk result (λ chunk. IsEachOnce chunk) }
 {
     let mut parser = Parser::new(alloc);
     match read(&mut parser, text, tokens) {
-        Ok(state) => finish(parser, state),
+        Ok(state) => finish(parser, state, text.len() as u32),
         Err(error) => Err(error),
     }
 }
@@ -53,9 +54,9 @@ fn read(parser: &mut Parser, text: &[u8], tokens: &[Token]) -> Result<State, Par
     requires nothing { stack_in parser.old ≡ [] }
     requires balance { (w : ℕ → ℕ) → spent_weight w parser.old ≡ made_weight w parser.old }
     ensures state { IfOk result (λ state. reading text.now tokens.now
-        ≡ reading_at_end (step_from (state_in parser.new.nodes (stack_in parser.new) state) end (place true 1 []))) }
+        ≡ reading_at_end (step_from (state_in parser.new.nodes (stack_in parser.new) state) end (attributes true 1 []))) }
     ensures below { IfOk result (λ state. StateBelow (length parser.new.nodes) state) }
-    ensures refused { IfErr result (λ error. Tells tokens.now (reading text.now tokens.now) (Err error)) }
+    ensures refused { IfErr result (λ error. IsAnswer text.now tokens.now (reading text.now tokens.now) (Err error)) }
     ensures once { IfOk result (λ state. (w : ℕ → ℕ) → accounted w state parser.new ≡ made_weight w parser.new) }
 {
     let mut state = State::BlockNext;
@@ -79,22 +80,22 @@ fn refusal_at(refusal: Refusal, start: u32) -> ParseError
     }
 }
 
-/// The text ends.
+/// The chunk of a text of this many bytes, which ends in this state.
 #[tactic(auto, unfolding(crate::specs::Weights::made_weight))]
-fn finish(mut parser: Parser, state: State) -> Result<Chunk, ParseError>
+fn finish(mut parser: Parser, state: State, len: u32) -> Result<Chunk, ParseError>
     requires below { StateBelow (length parser.nodes) state }
     requires balance { (w : ℕ → ℕ) → accounted w state parser ≡ made_weight w parser }
-    ensures told { (ts : List token_at) → Tells ts
-        (reading_at_end (step_from (state_in parser.nodes (stack_in parser) state) end (place true 1 []))) result }
+    ensures answers { (text : List ℕ) (ts : List token_at) → length text ≡ len → IsAnswer text ts
+        (reading_at_end (step_from (state_in parser.nodes (stack_in parser) state) end (attributes true 1 []))) result }
     ensures once { IfOk result (λ chunk. IsEachOnce chunk) }
 {
     let last = match parser.end(state) {
         Ok(last) => last,
         Err(Refusal::NoMemory) => return Err(ParseError::NoMemory),
-        Err(_) => return Err(ParseError::EndOfText),
+        Err(_) => return Err(ParseError::EndOfText(len)),
     };
     match last {
         State::Done { root } => Ok(parser.chunk(root)),
-        _ => Err(ParseError::EndOfText),
+        _ => Err(ParseError::EndOfText(len)),
     }
 }

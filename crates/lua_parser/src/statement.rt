@@ -5,8 +5,8 @@ ghost use Rattle.lua_ast.specs.Decode.{PartsBelow, node_tree, list_of, AllBelow}
 ghost use Rattle.lua_lexer.specs.declared.token.TokenKind.TheVariants.{In};
 ghost use Rattle.lua_grammar.specs.Signs.{token};
 ghost use Rattle.lua_grammar.specs.Pushdown.{add, next, end_block, block_of, begin, label_end, local_next, local_names, for_name, for_names, target_next, return_next};
-ghost use Rattle.lua_parser.specs.Shown.{tree_in, stack_in, begun_in, statement_in, frame_in, place, BegunBelow, StatementBelow, FrameBelow};
-ghost use Rattle.lua_parser.specs.Gave.{Gave, IsSmall, IsSmallSign, begin_prefix, next_block, mark_of};
+ghost use Rattle.lua_parser.specs.Shown.{tree_in, stack_in, begun_in, statement_in, frame_in, attributes, BegunBelow, StatementBelow, FrameBelow};
+ghost use Rattle.lua_parser.specs.Gave.{Gave, IsSmall, IsSmallSign, begin_prefix, next_block, terminal_of};
 ghost use Rattle.lua_ast.specs.Weights.{list_weight, parts_weight};
 ghost use Rattle.lua_parser.specs.Weights.{Spends, begun_weight, frame_weight, statement_weight};
 
@@ -30,8 +30,8 @@ impl Parser {
         requires frame { FrameBelow (length self.old.nodes) frame }
         requires small { IsSmall kind slice.now }
         ensures gave { Gave
-            (begin 0 (frame_in self.old.nodes frame ∷ stack_in self.old) (token kind) (place true line slice.now))
-            (begin 0 (frame_in self.old.nodes frame ∷ stack_in self.old) (token kind) (place false line slice.now)) result self.new }
+            (begin 0 (frame_in self.old.nodes frame ∷ stack_in self.old) (token kind) (attributes true line slice.now))
+            (begin 0 (frame_in self.old.nodes frame ∷ stack_in self.old) (token kind) (attributes false line slice.now)) result self.new }
         ensures once { Spends (λ w. frame_weight w frame) self.old result self.new }
     {
         self.push(frame)?;
@@ -49,8 +49,8 @@ impl Parser {
     ) -> Result<State, Refusal>
         requires { StatementBelow (length self.old.nodes) statement }
         ensures gave { Gave
-            (begin_prefix (statement_in self.old.nodes statement) (stack_in self.old) (token kind) (place true line slice.now))
-            (begin_prefix (statement_in self.old.nodes statement) (stack_in self.old) (token kind) (place false line slice.now)) result self.new }
+            (begin_prefix (statement_in self.old.nodes statement) (stack_in self.old) (token kind) (attributes true line slice.now))
+            (begin_prefix (statement_in self.old.nodes statement) (stack_in self.old) (token kind) (attributes false line slice.now)) result self.new }
         ensures once { Spends (λ w. statement_weight w statement) self.old result self.new }
     {
         self.push(Frame::InStatement(statement))?;
@@ -74,8 +74,8 @@ impl Parser {
     ) -> Result<State, Refusal>
         requires { BegunBelow (length self.old.nodes) block }
         ensures gave { Gave
-            (next (begun_in self.old.nodes block) (stack_in self.old) (mark_of kind) (place true line slice.now))
-            (next (begun_in self.old.nodes block) (stack_in self.old) (mark_of kind) (place false line slice.now))
+            (next (begun_in self.old.nodes block) (stack_in self.old) (terminal_of kind) (attributes true line slice.now))
+            (next (begun_in self.old.nodes block) (stack_in self.old) (terminal_of kind) (attributes false line slice.now))
             result self.new }
         ensures once { Spends (λ w. begun_weight w block) self.old result self.new }
     {
@@ -94,8 +94,8 @@ impl Parser {
     ) -> Result<State, Refusal>
         requires { BegunBelow (length self.old.nodes) block }
         ensures gave { Gave
-            (next (begun_in self.old.nodes block) (stack_in self.old) (token kind) (place true line slice.now))
-            (next (begun_in self.old.nodes block) (stack_in self.old) (token kind) (place false line slice.now))
+            (next (begun_in self.old.nodes block) (stack_in self.old) (token kind) (attributes true line slice.now))
+            (next (begun_in self.old.nodes block) (stack_in self.old) (token kind) (attributes false line slice.now))
             result self.new }
         ensures once { Spends (λ w. begun_weight w block) self.old result self.new }
     {
@@ -135,8 +135,8 @@ impl Parser {
     fn next_block(&mut self, block: Begun, kind: TokenKind, line: u32) -> Result<State, Refusal>
         requires { BegunBelow (length self.old.nodes) block }
         ensures gave { (slice : List ℕ) → Gave
-            (next_block (begun_in self.old.nodes block) (stack_in self.old) (token kind) (place true line slice))
-            (next_block (begun_in self.old.nodes block) (stack_in self.old) (token kind) (place false line slice))
+            (next_block (begun_in self.old.nodes block) (stack_in self.old) (token kind) (attributes true line slice))
+            (next_block (begun_in self.old.nodes block) (stack_in self.old) (token kind) (attributes false line slice))
             result self.new }
         ensures once { Spends (λ w. begun_weight w block) self.old result self.new }
     {
@@ -174,8 +174,8 @@ impl Parser {
         requires parts { PartsBelow (length self.old.nodes) node }
         requires block { BegunBelow (length self.old.nodes) block }
         ensures gave { Gave
-            (next (add (begun_in self.old.nodes block) (node_tree (tree_in self.old.nodes) 0 own node)) (stack_in self.old) (mark_of kind) (place true line slice.now))
-            (next (add (begun_in self.old.nodes block) (node_tree (tree_in self.old.nodes) 0 own node)) (stack_in self.old) (mark_of kind) (place false line slice.now))
+            (next (add (begun_in self.old.nodes block) (node_tree (tree_in self.old.nodes) 0 own node)) (stack_in self.old) (terminal_of kind) (attributes true line slice.now))
+            (next (add (begun_in self.old.nodes block) (node_tree (tree_in self.old.nodes) 0 own node)) (stack_in self.old) (terminal_of kind) (attributes false line slice.now))
             result self.new }
         ensures once { Spends (λ w. begun_weight w block + parts_weight w node) self.old result self.new }
     {
@@ -194,8 +194,8 @@ impl Parser {
         requires parts { PartsBelow (length self.old.nodes) node }
         requires block { BegunBelow (length self.old.nodes) block }
         ensures gave { Gave
-            (end_block (stack_in self.old) (block_of (add (begun_in self.old.nodes block) (node_tree (tree_in self.old.nodes) 0 own node))) (mark_of kind) (place true 0 []))
-            (end_block (stack_in self.old) (block_of (add (begun_in self.old.nodes block) (node_tree (tree_in self.old.nodes) 0 own node))) (mark_of kind) (place false 0 []))
+            (end_block (stack_in self.old) (block_of (add (begun_in self.old.nodes block) (node_tree (tree_in self.old.nodes) 0 own node))) (terminal_of kind) (attributes true 0 []))
+            (end_block (stack_in self.old) (block_of (add (begun_in self.old.nodes block) (node_tree (tree_in self.old.nodes) 0 own node))) (terminal_of kind) (attributes false 0 []))
             result self.new }
         ensures once { Spends (λ w. begun_weight w block + parts_weight w node) self.old result self.new }
     {
@@ -238,8 +238,8 @@ impl Parser {
     ) -> Result<State, Refusal>
         requires { BegunBelow (length self.old.nodes) block }
         ensures gave { Gave
-            (local_next own (begun_in self.old.nodes block) (stack_in self.old) (token kind) (place true line slice.now))
-            (local_next own (begun_in self.old.nodes block) (stack_in self.old) (token kind) (place false line slice.now))
+            (local_next own (begun_in self.old.nodes block) (stack_in self.old) (token kind) (attributes true line slice.now))
+            (local_next own (begun_in self.old.nodes block) (stack_in self.old) (token kind) (attributes false line slice.now))
             result self.new }
         ensures once { Spends (λ w. begun_weight w block) self.old result self.new }
     {
@@ -287,8 +287,8 @@ impl Parser {
     ) -> Result<State, Refusal>
         requires { BegunBelow (length self.old.nodes) block }
         ensures gave { Gave
-            (local_names own names (begun_in self.old.nodes block) (stack_in self.old) (mark_of kind) (place true line slice.now))
-            (local_names own names (begun_in self.old.nodes block) (stack_in self.old) (mark_of kind) (place false line slice.now))
+            (local_names own names (begun_in self.old.nodes block) (stack_in self.old) (terminal_of kind) (attributes true line slice.now))
+            (local_names own names (begun_in self.old.nodes block) (stack_in self.old) (terminal_of kind) (attributes false line slice.now))
             result self.new }
         ensures once { Spends (λ w. begun_weight w block) self.old result self.new }
     {
@@ -419,8 +419,8 @@ impl Parser {
         requires targets { AllBelow (length self.old.nodes) targets }
         requires block { BegunBelow (length self.old.nodes) block }
         ensures gave { Gave
-            (target_next own (list_of (tree_in self.old.nodes) targets) (begun_in self.old.nodes block) (stack_in self.old) (token kind) (place true line slice.now))
-            (target_next own (list_of (tree_in self.old.nodes) targets) (begun_in self.old.nodes block) (stack_in self.old) (token kind) (place false line slice.now))
+            (target_next own (list_of (tree_in self.old.nodes) targets) (begun_in self.old.nodes block) (stack_in self.old) (token kind) (attributes true line slice.now))
+            (target_next own (list_of (tree_in self.old.nodes) targets) (begun_in self.old.nodes block) (stack_in self.old) (token kind) (attributes false line slice.now))
             result self.new }
         ensures once { Spends (λ w. list_weight w targets + begun_weight w block) self.old result self.new }
     {
@@ -445,8 +445,8 @@ impl Parser {
         requires block { BegunBelow (length self.old.nodes) block }
         requires small { IsSmallSign kind slice.now }
         ensures gave { Gave
-            (return_next own (begun_in self.old.nodes block) (stack_in self.old) (mark_of kind) (place true line slice.now))
-            (return_next own (begun_in self.old.nodes block) (stack_in self.old) (mark_of kind) (place false line slice.now))
+            (return_next own (begun_in self.old.nodes block) (stack_in self.old) (terminal_of kind) (attributes true line slice.now))
+            (return_next own (begun_in self.old.nodes block) (stack_in self.old) (terminal_of kind) (attributes false line slice.now))
             result self.new }
         ensures once { Spends (λ w. begun_weight w block) self.old result self.new }
     {

@@ -3,8 +3,8 @@
 ghost use Rattle.std.specs.Prelude.{[], true, false, length, Some, None};
 ghost use Rattle.lua_grammar.specs.Signs.{token, end};
 ghost use Rattle.lua_grammar.specs.Pushdown.{begun, next, step_from};
-ghost use Rattle.lua_parser.specs.Shown.{stack_in, state_in, place, StateBelow};
-ghost use Rattle.lua_parser.specs.Gave.{Gave, IsSmall, mark_of};
+ghost use Rattle.lua_parser.specs.Shown.{stack_in, state_in, attributes, StateBelow};
+ghost use Rattle.lua_parser.specs.Gave.{Gave, IsSmall, terminal_of};
 ghost use Rattle.lua_parser.specs.Weights.{Spends, StepsOnce};
 
 use crate::frame::Begun;
@@ -24,8 +24,8 @@ impl Parser {
         slice: &[u8],
     ) -> Result<State, Refusal>
         ensures gave { Gave
-            (next (begun line) (stack_in self.old) (mark_of kind) (place true line slice.now))
-            (next (begun line) (stack_in self.old) (mark_of kind) (place false line slice.now)) result self.new }
+            (next (begun line) (stack_in self.old) (terminal_of kind) (attributes true line slice.now))
+            (next (begun line) (stack_in self.old) (terminal_of kind) (attributes false line slice.now)) result self.new }
         ensures once { Spends (λ _. 0) self.old result self.new }
     {
         let stats = Ids::new(self.alloc());
@@ -43,8 +43,8 @@ impl Parser {
         requires state { StateBelow (length self.old.nodes) state }
         requires small { IsSmall kind slice.now }
         ensures gave { Gave
-            (step_from (state_in self.old.nodes (stack_in self.old) state) (token kind) (place true line slice.now))
-            (step_from (state_in self.old.nodes (stack_in self.old) state) (token kind) (place false line slice.now))
+            (step_from (state_in self.old.nodes (stack_in self.old) state) (token kind) (attributes true line slice.now))
+            (step_from (state_in self.old.nodes (stack_in self.old) state) (token kind) (attributes false line slice.now))
             result self.new }
         ensures once { StepsOnce state self.old result self.new }
     {
@@ -93,8 +93,8 @@ impl Parser {
     pub fn end(&mut self, state: State) -> Result<State, Refusal>
         requires { StateBelow (length self.old.nodes) state }
         ensures gave { Gave
-            (step_from (state_in self.old.nodes (stack_in self.old) state) end (place true 1 []))
-            (step_from (state_in self.old.nodes (stack_in self.old) state) end (place false 1 []))
+            (step_from (state_in self.old.nodes (stack_in self.old) state) end (attributes true 1 []))
+            (step_from (state_in self.old.nodes (stack_in self.old) state) end (attributes false 1 []))
             result self.new }
         ensures once { StepsOnce state self.old result self.new }
     {

@@ -4,8 +4,8 @@ ghost use Rattle.std.specs.Prelude.{◌≡◌, ◌<◌, true, false, length, Som
 ghost use Rattle.lua_grammar.specs.Signs.{token};
 ghost use Rattle.lua_grammar.specs.Operators.{operator_of};
 ghost use Rattle.lua_grammar.specs.Grammar.{is_prefix};
-ghost use Rattle.lua_parser.specs.Shown.{tree_in, stack_in, operator_in, place};
-ghost use Rattle.lua_parser.specs.Gave.{Gave, mark_of};
+ghost use Rattle.lua_parser.specs.Shown.{tree_in, stack_in, operator_in, attributes};
+ghost use Rattle.lua_parser.specs.Gave.{Gave, terminal_of};
 ghost use Rattle.lua_parser.specs.Follows.{IsSuffix, chosen, extended};
 ghost use Rattle.lua_parser.specs.Weights.{Spends};
 
@@ -56,7 +56,7 @@ impl Parser {
     /// The same of a token or the end, with which nothing goes on.
     pub fn suffix_at(&self, limit: u8, had: NodeId, kind: Option<TokenKind>) -> Option<Suffix>
         requires { had < length self.now.nodes }
-        ensures { IsSuffix limit (tree_in self.now.nodes had) (mark_of kind) result }
+        ensures { IsSuffix limit (tree_in self.now.nodes had) (terminal_of kind) result }
     {
         match kind {
             Some(kind) => self.suffix_of(limit, had, kind),
@@ -88,8 +88,8 @@ impl Parser {
     ) -> Result<State, Refusal>
         requires { had < length self.old.nodes }
         ensures gave { Gave
-            (extended limit (tree_in self.old.nodes had) (stack_in self.old) (mark_of kind) (place true line slice.now) suffix)
-            (extended limit (tree_in self.old.nodes had) (stack_in self.old) (mark_of kind) (place false line slice.now) suffix)
+            (extended limit (tree_in self.old.nodes had) (stack_in self.old) (terminal_of kind) (attributes true line slice.now) suffix)
+            (extended limit (tree_in self.old.nodes had) (stack_in self.old) (terminal_of kind) (attributes false line slice.now) suffix)
             result self.new }
         ensures once { Spends (λ w. w had) self.old result self.new }
     {

@@ -20,7 +20,7 @@ fn answer(alloc: Global, text: &[u8]) -> Result<Vec<u8>, AllocError> {
         Err(ParseError::NoMemory) => Err(AllocError),
         Err(ParseError::Unexpected(at)) => refusal(alloc, "unexpected", at),
         Err(ParseError::TooDeep(at)) => refusal(alloc, "too deep", at),
-        Err(ParseError::EndOfText) => b"end of text".to_vec(alloc),
+        Err(ParseError::EndOfText(len)) => refusal(alloc, "end of text", len),
     }
 }
 
@@ -155,11 +155,11 @@ fn statements_with_blocks(rt: HostRuntime) -> Result<(), Fail> {
 #[test]
 fn refusals(rt: HostRuntime) -> Result<(), Fail> {
     let table = [
-        ("a", "end of text"),
-        ("a.b", "end of text"),
-        ("return (", "end of text"),
-        ("do", "end of text"),
-        ("local", "end of text"),
+        ("a", "end of text 1"),
+        ("a.b", "end of text 3"),
+        ("return (", "end of text 8"),
+        ("do", "end of text 2"),
+        ("local", "end of text 5"),
         ("a b", "unexpected 2"),
         ("f() = 1", "unexpected 4"),
         ("(a) = 1", "unexpected 4"),

@@ -2,14 +2,14 @@ use Rattle.std.specs.Prelude.{◌≡◌, true, false}
 use Rattle.std.proofs.Common.{ap, sym, ◌∙◌}
 use Rattle.lua_grammar.specs.Signs.{token}
 use Rattle.lua_grammar.specs.Pushdown as pushdown
-use Rattle.lua_parser.specs.Shown.{tree_in, stack_in, begun_in, place}
-use Rattle.lua_parser.specs.Gave.{mark_of}
+use Rattle.lua_parser.specs.Shown.{tree_in, stack_in, begun_in, attributes}
+use Rattle.lua_parser.specs.Gave.{terminal_of}
 use Rattle.lua_parser.proofs.Steps.{gave_as}
 use Rattle.lua_ast.specs.Tree as tree
 use Rattle.lua_ast.specs.Tree.{Trees}
 use Rattle.lua_ast.specs.Decode.{list_of}
 use Rattle.lua_ast.proofs.Growing.{list_of_push}
-use Rattle.lua_grammar.specs.Signs.{Mark, Place}
+use Rattle.lua_grammar.specs.Signs.{Terminal, Attributes}
 use Rattle.lua_parser.proofs.Others.{close_assign_other}
 use Rattle.lua_parser.proofs.parser.Parser.close_assign.Goals as goal
 
@@ -25,10 +25,10 @@ returns-in_default-token-clause-gave c =
     let vs = list_of part c.args.targets in
     let ts = list_of part c.push.new.self in
     let more : ts ≡ tree.snoc es t = ap (list_of part) c.in_ok-push.ensures.ok ∙ list_of_push part c.args.exps c.args.had in
-    let same = λ (i : Place). ap (λ (m : Mark). pushdown.close (pushdown.InAssign l vs es b) t k m i) (ap mark_of c.in-Some.is) ∙ close_assign_other l vs es b t k x i c.in_default-token.not-Comma
+    let same = λ (i : Attributes). ap (λ (m : Terminal). pushdown.close (pushdown.InAssign l vs es b) t k m i) (ap terminal_of c.in-Some.is) ∙ close_assign_other l vs es b t k x i c.in_default-token.not-Comma
     ∙ ap (λ (us : Trees). pushdown.next (pushdown.add b (tree.Assign 0 l vs us)) k (token x) i) (sym more) in
-    let i = place true c.args.line c.args.slice.now in
-    let j = place false c.args.line c.args.slice.now in
-    gave_as (pushdown.close (pushdown.InAssign l vs es b) t k (mark_of c.args.kind) i) (pushdown.next (pushdown.add b (tree.Assign 0 l vs ts)) k (token x) i)
-    (pushdown.close (pushdown.InAssign l vs es b) t k (mark_of c.args.kind) j) (pushdown.next (pushdown.add b (tree.Assign 0 l vs ts)) k (token x) j)
+    let i = attributes true c.args.line c.args.slice.now in
+    let j = attributes false c.args.line c.args.slice.now in
+    gave_as (pushdown.close (pushdown.InAssign l vs es b) t k (terminal_of c.args.kind) i) (pushdown.next (pushdown.add b (tree.Assign 0 l vs ts)) k (token x) i)
+    (pushdown.close (pushdown.InAssign l vs es b) t k (terminal_of c.args.kind) j) (pushdown.next (pushdown.add b (tree.Assign 0 l vs ts)) k (token x) j)
     c.next_after-in_default-token.result c.next_after-in_default-token.new.self (same i) (same j) c.next_after-in_default-token.ensures.gave

@@ -3,8 +3,8 @@ use Rattle.std.proofs.Common.{ap, ◌∙◌}
 use Rattle.lua_ast.specs.Decode.{list_of}
 use Rattle.lua_grammar.specs.Pushdown as pushdown
 use Rattle.lua_parser.specs.declared.frame.OpenStatement.{OpenStatement}
-use Rattle.lua_parser.specs.Shown.{tree_in, stack_in, begun_in, statement_in, place}
-use Rattle.lua_parser.specs.Gave.{mark_of}
+use Rattle.lua_parser.specs.Shown.{tree_in, stack_in, begun_in, statement_in, attributes}
+use Rattle.lua_parser.specs.Gave.{terminal_of}
 use Rattle.lua_parser.proofs.Steps.{gave_as}
 use Rattle.lua_parser.proofs.Others.{close_return_at}
 use Rattle.lua_parser.proofs.parser.Parser.close_in_statement.Goals as goal
@@ -14,14 +14,14 @@ returns-in-Return-clause-gave c =
     let ns = c.args.self.now.nodes in
     let t = tree_in ns c.args.had in
     let k = stack_in c.args.self.now in
-    let m = mark_of c.args.kind in
+    let m = terminal_of c.args.kind in
     let l = c.in-Return.line in
     let es = list_of (tree_in ns) c.in-Return.exps in
     let b = begun_in ns c.in-Return.block in
     let f = statement_in ns c.args.statement in
     let g = pushdown.InReturn l es b in
     let same : f ≡ g = ap (λ (x : OpenStatement). statement_in ns x) c.in-Return.is in
-    let at = λ (w : Bool). ap (λ (x : pushdown.Frame). pushdown.close x t k m (place w c.args.line c.args.slice.now)) same ∙ close_return_at w l es b t k m c.args.line 0 c.args.slice.now [] in
-    gave_as (pushdown.close f t k m (place true c.args.line c.args.slice.now)) (pushdown.close g t k m (place true 0 []))
-    (pushdown.close f t k m (place false c.args.line c.args.slice.now)) (pushdown.close g t k m (place false 0 [])) c.close_return.result c.close_return.new.self
+    let at = λ (w : Bool). ap (λ (x : pushdown.Frame). pushdown.close x t k m (attributes w c.args.line c.args.slice.now)) same ∙ close_return_at w l es b t k m c.args.line 0 c.args.slice.now [] in
+    gave_as (pushdown.close f t k m (attributes true c.args.line c.args.slice.now)) (pushdown.close g t k m (attributes true 0 []))
+    (pushdown.close f t k m (attributes false c.args.line c.args.slice.now)) (pushdown.close g t k m (attributes false 0 [])) c.close_return.result c.close_return.new.self
     (at true) (at false) c.close_return.ensures.gave

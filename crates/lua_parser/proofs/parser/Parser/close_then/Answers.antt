@@ -1,7 +1,7 @@
 use Rattle.std.specs.Prelude.{ℕ, true, false, List, [], ◌∷◌, ◌++◌, ◌+◌}
 use Rattle.std.proofs.Common.{ap, sym, arith, ◌∙◌}
-use Rattle.lua_parser.specs.Shown.{tree_in, stack_in, begun_in, place}
-use Rattle.lua_parser.specs.Gave.{after_cases, mark_of}
+use Rattle.lua_parser.specs.Shown.{tree_in, stack_in, begun_in, attributes}
+use Rattle.lua_parser.specs.Gave.{after_cases, terminal_of}
 use Rattle.lua_parser.proofs.Steps.{gave_at}
 use Rattle.lua_ast.specs.Tree.{Cases, case}
 use Rattle.lua_ast.specs.Decode.{cases_of}
@@ -16,7 +16,7 @@ returns-clause-gave c =
     let part = tree_in c.args.self.now.nodes in
     let e = ap (λ (ts : List ℕ). cases_of part ts c.push-2.new.self) c.in_ok-push.ensures.ok ∙ ap (λ (bs : List ℕ). cases_of part (c.args.tests ++ c.args.test ∷ []) bs) c.in_ok-push-2.ensures.ok
     ∙ cases_of_push part c.args.tests c.args.blocks c.args.test c.args.body c.requires.cases.2 in
-    gave_at (λ (cs : Cases). after_cases c.args.line cs (begun_in c.args.self.now.nodes c.args.block) (stack_in c.args.self.now) (mark_of c.args.kind) (place true 0 [])) (λ (cs : Cases). after_cases c.args.line cs (begun_in c.args.self.now.nodes c.args.block) (stack_in c.args.self.now) (mark_of c.args.kind) (place false 0 []))
+    gave_at (λ (cs : Cases). after_cases c.args.line cs (begun_in c.args.self.now.nodes c.args.block) (stack_in c.args.self.now) (terminal_of c.args.kind) (attributes true 0 [])) (λ (cs : Cases). after_cases c.args.line cs (begun_in c.args.self.now.nodes c.args.block) (stack_in c.args.self.now) (terminal_of c.args.kind) (attributes false 0 []))
     (case (cases_of part c.args.tests c.args.blocks) (part c.args.test) (part c.args.body)) (cases_of part c.push.new.self c.push-2.new.self) c.close_cases.result c.close_cases.new.self (sym e) c.close_cases.ensures.gave
 
 pub returns-clause-once : goal.returns-clause-once

@@ -4,7 +4,7 @@ use Rattle.lua_ast.specs.Tree as tree
 use Rattle.lua_ast.specs.Decode.{fields_of}
 use Rattle.lua_grammar.specs.Signs.{token}
 use Rattle.lua_grammar.specs.Pushdown as pushdown
-use Rattle.lua_parser.specs.Shown.{tree_in, stack_in, purpose_in, place}
+use Rattle.lua_parser.specs.Shown.{tree_in, stack_in, purpose_in, attributes}
 use Rattle.lua_parser.proofs.Steps.{gave_as}
 use Rattle.lua_parser.proofs.Others.{field_name_other}
 use Rattle.lua_parser.proofs.parser.Parser.field_name.Goals as goal
@@ -22,9 +22,9 @@ returns-in_ok-had-in_default-clause-gave c =
     let z = stack_in c.add.new.self in
     let stack : f ∷ k ≡ z = sym (c.in_ok-had-in_default.ensures.stack ∙ c.in_ok-push-in_default.ensures.stack) in
     let name : n ≡ t = sym c.in_ok-had-in_default.ensures.tree in
-    let at = λ (w : Bool). field_name_other u c.args.table.line fs c.args.own c.args.name k c.args.kind (place w c.args.line c.args.slice.now) c.in_default.not-Assign
-    ∙ ap (λ (x : List pushdown.Frame). pushdown.follow x 0 n m (place w c.args.line c.args.slice.now)) stack
-    ∙ ap (λ (x : tree.Tree). pushdown.follow z 0 x m (place w c.args.line c.args.slice.now)) name in
-    gave_as (pushdown.field_name u c.args.table.line fs c.args.own c.args.name k m (place true c.args.line c.args.slice.now)) (pushdown.follow z 0 t m (place true c.args.line c.args.slice.now))
-    (pushdown.field_name u c.args.table.line fs c.args.own c.args.name k m (place false c.args.line c.args.slice.now)) (pushdown.follow z 0 t m (place false c.args.line c.args.slice.now)) c.follow.result c.follow.new.self
+    let at = λ (w : Bool). field_name_other u c.args.table.line fs c.args.own c.args.name k c.args.kind (attributes w c.args.line c.args.slice.now) c.in_default.not-Assign
+    ∙ ap (λ (x : List pushdown.Frame). pushdown.follow x 0 n m (attributes w c.args.line c.args.slice.now)) stack
+    ∙ ap (λ (x : tree.Tree). pushdown.follow z 0 x m (attributes w c.args.line c.args.slice.now)) name in
+    gave_as (pushdown.field_name u c.args.table.line fs c.args.own c.args.name k m (attributes true c.args.line c.args.slice.now)) (pushdown.follow z 0 t m (attributes true c.args.line c.args.slice.now))
+    (pushdown.field_name u c.args.table.line fs c.args.own c.args.name k m (attributes false c.args.line c.args.slice.now)) (pushdown.follow z 0 t m (attributes false c.args.line c.args.slice.now)) c.follow.result c.follow.new.self
     (at true) (at false) c.follow.ensures.gave

@@ -1,17 +1,17 @@
 use Rattle.std.specs.Prelude.{◌≡◌, ◌<◌, true, false, length}
 use Rattle.lua_grammar.specs.Pushdown.{follow}
-use Rattle.lua_parser.specs.Shown.{tree_in, stack_in, place}
+use Rattle.lua_parser.specs.Shown.{tree_in, stack_in, attributes}
 use Rattle.lua_parser.specs.Weights.{Balances}
-use Rattle.lua_parser.specs.Gave.{mark_of}
+use Rattle.lua_parser.specs.Gave.{terminal_of}
 use Rattle.lua_parser.proofs.parser.Parser.follow.Given as goal
 
 -- The sign behind the expression so far is read as it is behind the first one.
 abbrev pub invariant-operands : goal.invariant-operands
 invariant-operands l = record {
-  counted : follow (stack_in l.fn.self) l.limit (tree_in l.fn.self.nodes l.fn.had) (mark_of l.kind) (place true l.line l.slice)
-      ≡ follow (stack_in l.self) l.operand.limit (tree_in l.self.nodes l.operand.node) (mark_of l.kind) (place true l.line l.slice);
-  free : follow (stack_in l.fn.self) l.limit (tree_in l.fn.self.nodes l.fn.had) (mark_of l.kind) (place false l.line l.slice)
-      ≡ follow (stack_in l.self) l.operand.limit (tree_in l.self.nodes l.operand.node) (mark_of l.kind) (place false l.line l.slice);
+  counted : follow (stack_in l.fn.self) l.limit (tree_in l.fn.self.nodes l.fn.had) (terminal_of l.kind) (attributes true l.line l.slice)
+      ≡ follow (stack_in l.self) l.operand.limit (tree_in l.self.nodes l.operand.node) (terminal_of l.kind) (attributes true l.line l.slice);
+  free : follow (stack_in l.fn.self) l.limit (tree_in l.fn.self.nodes l.fn.had) (terminal_of l.kind) (attributes false l.line l.slice)
+      ≡ follow (stack_in l.self) l.operand.limit (tree_in l.self.nodes l.operand.node) (terminal_of l.kind) (attributes false l.line l.slice);
   within : l.operand.node < length l.self.nodes;
   once : Balances (λ w. w l.fn.had) l.fn.self (λ w. w l.operand.node) l.self;
 }

@@ -2,13 +2,13 @@ use Rattle.std.specs.Prelude.{◌≡◌, true, false}
 use Rattle.std.proofs.Common.{ap, sym, ◌∙◌}
 use Rattle.lua_grammar.specs.Signs.{token}
 use Rattle.lua_grammar.specs.Pushdown as pushdown
-use Rattle.lua_parser.specs.Shown.{tree_in, stack_in, begun_in, place}
-use Rattle.lua_parser.specs.Gave.{mark_of}
+use Rattle.lua_parser.specs.Shown.{tree_in, stack_in, begun_in, attributes}
+use Rattle.lua_parser.specs.Gave.{terminal_of}
 use Rattle.lua_parser.proofs.Steps.{gave_as}
 use Rattle.lua_ast.specs.Tree as tree
 use Rattle.lua_ast.specs.Tree.{Trees}
 use Rattle.lua_ast.specs.Decode.{list_of}
-use Rattle.lua_grammar.specs.Signs.{Mark, Place}
+use Rattle.lua_grammar.specs.Signs.{Terminal, Attributes}
 use Rattle.lua_parser.proofs.Lists.{list_of_none}
 use Rattle.lua_parser.proofs.Others.{local_names_other}
 use Rattle.lua_parser.proofs.parser.Parser.local_names.Goals as goal
@@ -23,10 +23,10 @@ returns-in_default-token-clause-gave c =
     let x = c.in-Some.token in
     let ts = list_of part c.new-exps.result in
     let none : ts ≡ tree.none = ap (list_of part) c.new-exps.ensures ∙ list_of_none part in
-    let same = λ (i : Place). ap (λ (m : Mark). pushdown.local_names l ns b k m i) (ap mark_of c.in-Some.is) ∙ local_names_other l ns b k x i c.in_default-token.not-Comma c.in_default-token.not-Assign
+    let same = λ (i : Attributes). ap (λ (m : Terminal). pushdown.local_names l ns b k m i) (ap terminal_of c.in-Some.is) ∙ local_names_other l ns b k x i c.in_default-token.not-Comma c.in_default-token.not-Assign
     ∙ ap (λ (us : Trees). pushdown.next (pushdown.add b (tree.Local 0 l ns us)) k (token x) i) (sym none) in
-    let i = place true c.args.line c.args.slice.now in
-    let j = place false c.args.line c.args.slice.now in
-    gave_as (pushdown.local_names l ns b k (mark_of c.args.kind) i) (pushdown.next (pushdown.add b (tree.Local 0 l ns ts)) k (token x) i)
-    (pushdown.local_names l ns b k (mark_of c.args.kind) j) (pushdown.next (pushdown.add b (tree.Local 0 l ns ts)) k (token x) j)
+    let i = attributes true c.args.line c.args.slice.now in
+    let j = attributes false c.args.line c.args.slice.now in
+    gave_as (pushdown.local_names l ns b k (terminal_of c.args.kind) i) (pushdown.next (pushdown.add b (tree.Local 0 l ns ts)) k (token x) i)
+    (pushdown.local_names l ns b k (terminal_of c.args.kind) j) (pushdown.next (pushdown.add b (tree.Local 0 l ns ts)) k (token x) j)
     c.next_after-in_default-token.result c.next_after-in_default-token.new.self (same i) (same j) c.next_after-in_default-token.ensures.gave

@@ -2,7 +2,7 @@ use Rattle.std.specs.Prelude.{true, false, []}
 use Rattle.std.proofs.Common.{◌∙◌}
 use Rattle.lua_grammar.specs.Signs.{token}
 use Rattle.lua_grammar.specs.Pushdown as pushdown
-use Rattle.lua_parser.specs.Shown.{stack_in, begun_in, place}
+use Rattle.lua_parser.specs.Shown.{stack_in, begun_in, attributes}
 use Rattle.lua_parser.specs.Gave.{next_block}
 use Rattle.lua_parser.proofs.Steps.{gave_as}
 use Rattle.lua_parser.proofs.Others.{next_block_other, end_at}
@@ -15,8 +15,8 @@ returns-in_default-clause-gave c =
     let t = pushdown.block_of b in
     let m = token c.args.kind in
     let l = c.args.line in
-    λ s. gave_as (next_block b k m (place true l s)) (pushdown.end_block k t m (place true 0 []))
-    (next_block b k m (place false l s)) (pushdown.end_block k t m (place false 0 [])) c.end_block.result c.end_block.new.self
-    (next_block_other b k c.args.kind (place true l s) c.in_default.not-Do c.in_default.not-While c.in_default.not-Repeat c.in_default.not-If ∙ end_at true k t m l 0 s [])
-    (next_block_other b k c.args.kind (place false l s) c.in_default.not-Do c.in_default.not-While c.in_default.not-Repeat c.in_default.not-If ∙ end_at false k t m l 0 s [])
+    λ s. gave_as (next_block b k m (attributes true l s)) (pushdown.end_block k t m (attributes true 0 []))
+    (next_block b k m (attributes false l s)) (pushdown.end_block k t m (attributes false 0 [])) c.end_block.result c.end_block.new.self
+    (next_block_other b k c.args.kind (attributes true l s) c.in_default.not-Do c.in_default.not-While c.in_default.not-Repeat c.in_default.not-If ∙ end_at true k t m l 0 s [])
+    (next_block_other b k c.args.kind (attributes false l s) c.in_default.not-Do c.in_default.not-While c.in_default.not-Repeat c.in_default.not-If ∙ end_at false k t m l 0 s [])
     c.end_block.ensures.gave

@@ -1,7 +1,7 @@
 use Rattle.std.specs.Prelude.{true, false}
 use Rattle.lua_grammar.specs.Signs.{token}
 use Rattle.lua_grammar.specs.Pushdown as pushdown
-use Rattle.lua_parser.specs.Shown.{stack_in, begun_in, place}
+use Rattle.lua_parser.specs.Shown.{stack_in, begun_in, attributes}
 use Rattle.lua_parser.specs.Gave.{next_block}
 use Rattle.lua_parser.proofs.Steps.{gave_as}
 use Rattle.lua_parser.proofs.Others.{next_other}
@@ -14,8 +14,8 @@ returns-in_default-clause-gave c =
     let m = token c.args.kind in
     let l = c.args.line in
     let s = c.args.slice.now in
-    gave_as (pushdown.next b k m (place true l s)) (next_block b k m (place true l s))
-    (pushdown.next b k m (place false l s)) (next_block b k m (place false l s)) c.next_block.result c.next_block.new.self
-    (next_other b k c.args.kind (place true l s) c.in_default.not-Semicolon c.in_default.not-Name c.in_default.not-OpenParen c.in_default.not-DoubleColon c.in_default.not-Break c.in_default.not-Goto c.in_default.not-For c.in_default.not-Function c.in_default.not-Local c.in_default.not-Return)
-    (next_other b k c.args.kind (place false l s) c.in_default.not-Semicolon c.in_default.not-Name c.in_default.not-OpenParen c.in_default.not-DoubleColon c.in_default.not-Break c.in_default.not-Goto c.in_default.not-For c.in_default.not-Function c.in_default.not-Local c.in_default.not-Return)
+    gave_as (pushdown.next b k m (attributes true l s)) (next_block b k m (attributes true l s))
+    (pushdown.next b k m (attributes false l s)) (next_block b k m (attributes false l s)) c.next_block.result c.next_block.new.self
+    (next_other b k c.args.kind (attributes true l s) c.in_default.not-Semicolon c.in_default.not-Name c.in_default.not-OpenParen c.in_default.not-DoubleColon c.in_default.not-Break c.in_default.not-Goto c.in_default.not-For c.in_default.not-Function c.in_default.not-Local c.in_default.not-Return)
+    (next_other b k c.args.kind (attributes false l s) c.in_default.not-Semicolon c.in_default.not-Name c.in_default.not-OpenParen c.in_default.not-DoubleColon c.in_default.not-Break c.in_default.not-Goto c.in_default.not-For c.in_default.not-Function c.in_default.not-Local c.in_default.not-Return)
     (c.next_block.ensures.gave s)

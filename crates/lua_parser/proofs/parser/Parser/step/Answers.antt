@@ -3,7 +3,7 @@ use Rattle.std.proofs.Common.{ap, ◌∙◌}
 use Rattle.lua_grammar.specs.Signs.{token}
 use Rattle.lua_grammar.specs.Pushdown as pushdown
 use Rattle.lua_parser.specs.declared.state.State.{State}
-use Rattle.lua_parser.specs.Shown.{stack_in, state_in, begun_in, place}
+use Rattle.lua_parser.specs.Shown.{stack_in, state_in, begun_in, attributes}
 use Rattle.lua_parser.proofs.Steps.{gave_as}
 use Rattle.lua_parser.proofs.Others.{end_at}
 use Rattle.lua_parser.proofs.parser.Parser.step.Goals as goal
@@ -15,7 +15,7 @@ returns-in-BlockEnd-clause-gave c =
     let m = token c.args.kind in
     let t = pushdown.block_of (begun_in ns c.in-BlockEnd.block) in
     let s = state_in ns k c.args.state in
-    let at = λ (w : Bool). ap (λ (x : State). pushdown.step_from (state_in ns k x) m (place w c.args.line c.args.slice.now)) c.in-BlockEnd.is ∙ end_at w k t m c.args.line 0 c.args.slice.now [] in
-    gave_as (pushdown.step_from s m (place true c.args.line c.args.slice.now)) (pushdown.end_block k t m (place true 0 []))
-    (pushdown.step_from s m (place false c.args.line c.args.slice.now)) (pushdown.end_block k t m (place false 0 [])) c.end_block.result c.end_block.new.self
+    let at = λ (w : Bool). ap (λ (x : State). pushdown.step_from (state_in ns k x) m (attributes w c.args.line c.args.slice.now)) c.in-BlockEnd.is ∙ end_at w k t m c.args.line 0 c.args.slice.now [] in
+    gave_as (pushdown.step_from s m (attributes true c.args.line c.args.slice.now)) (pushdown.end_block k t m (attributes true 0 []))
+    (pushdown.step_from s m (attributes false c.args.line c.args.slice.now)) (pushdown.end_block k t m (attributes false 0 [])) c.end_block.result c.end_block.new.self
     (at true) (at false) c.end_block.ensures.gave
