@@ -22,11 +22,6 @@ pub record SeatView (O E : Type 0) : Type 0 where
   pub has_turn : Bool
   pub turns : ℕ
 
--- where a lock's lists begin, and the list for which its value stands
-pub record Start (O E : Type 0) : Type 0 where
-  pub origin : O
-  pub list : List E
-
 module _ {O E : Type 0} where
   -- a seat without the turn that had none yet
   abbrev pub fresh_seat : TableId → O → List E → List ℕ → SeatView O E

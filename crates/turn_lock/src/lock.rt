@@ -1,5 +1,5 @@
 //! The lock, and its turns.
-ghost use Rattle.std.specs.Prelude.{◌≡◌, ◌+◌, ◌≤◌, List, true, false, length};
+ghost use Rattle.std.specs.Prelude.{◌≡◌, ◌+◌, ◌≤◌, true, false, length};
 ghost use Rattle.turn_lock.specs.Entries.{GoesOnByOthers, GoesOnByOwn};
 
 use crate::Recorded;
@@ -8,7 +8,9 @@ use crate::steps::Count;
 use crate::turns::{put_back, wait_for_turn};
 use crate::view::{Opening, Stored, View};
 use atomic_table::{Shared, Table, TableRule};
+use known::Known;
 use std::alloc::Global;
+use std::collections::LinkedList;
 use std::marker::{Model, PhantomData};
 use std::sync::Wait;
 
@@ -85,17 +87,16 @@ impl<T: Recorded + Drop> TurnLock<T> {
 
     /// Gives the value and the turn back.
     ///
-    /// The value stands for a list that begins with the one that was taken. Each entry more is of
-    /// a maker whose number the seat holds.
-    pub fn give(&self, seat: &mut SeatOf<T>, value: T)
-        ghost list: { List T.Entry }
+    /// The value stands for the list, which begins with the one that was taken. Each entry more is
+    /// of a maker whose number the seat holds.
+    pub fn give(&self, seat: &mut SeatOf<T>, value: T, list: Known<LinkedList<T::Entry>>)
         requires own { seat.old.lock ≡ self.now.id }
         requires turn { seat.old.has_turn ≡ true }
-        requires stands { T.stands value seat.old.origin list }
-        requires made { GoesOnByOwn T.maker seat.old.numbers seat.old.seen list }
-        ensures { seat.new ≡ record seat.old { seen = list; has_turn = false } }
+        requires stands { T.stands value seat.old.origin list.value }
+        requires made { GoesOnByOwn T.maker seat.old.numbers seat.old.seen list.value }
+        ensures { seat.new ≡ record seat.old { seen = list.value; has_turn = false } }
     {
-        put_back(&self.table.shared, &mut seat.place, value);
+        put_back(&self.table.shared, &mut seat.place, value, list);
     }
 
     /// How many entries there are, at least as many as the seat has seen. It waits for nobody.

@@ -1,7 +1,7 @@
 //! The first and the last call of a lock.
 ghost use Rattle.std.specs.Prelude.{◌≡◌, ℕ, ◌<◌, ◌∷◌, [], false, IfOk};
 ghost use Rattle.turn_lock.specs.Entries.{Holds, below};
-ghost use Rattle.turn_lock.specs.Seats.{Start, fresh_seat, EndsWith};
+ghost use Rattle.turn_lock.specs.Seats.{fresh_seat, EndsWith};
 
 use crate::Recorded;
 use crate::lock::TurnLock;
@@ -10,6 +10,7 @@ use crate::view::{Opening, Stored};
 use atomic_table::{Refused, Table};
 use known::Known;
 use std::alloc::Global;
+use std::collections::LinkedList;
 use zc_io::NoMemory;
 
 fn one_slot<S: Drop>(alloc: Global, x: S) -> Result<Vec<S>, NoMemory>
@@ -25,17 +26,20 @@ fn one_slot<S: Drop>(alloc: Global, x: S) -> Result<Vec<S>, NoMemory>
 impl<T: Recorded + Drop> TurnLock<T> {
     /// A lock round the value, and its one seat, which holds every number.
     ///
-    /// The value stands for a list with an origin, and the seat has both.
-    pub fn new(alloc: Global, value: T, numbers: u32) -> Result<(TurnLock<T>, SeatOf<T>), NoMemory>
-        ghost start: { Start T.Origin T.Entry }
-        requires stands { T.stands value start.origin start.list }
+    /// The value stands for the list with the origin, and the seat has both.
+    pub fn new(
+        alloc: Global,
+        value: T,
+        numbers: u32,
+        origin: Known<T::Origin>,
+        list: Known<LinkedList<T::Entry>>,
+    ) -> Result<(TurnLock<T>, SeatOf<T>), NoMemory>
+        requires stands { T.stands value origin.value list.value }
         requires some { 0 < numbers }
         ensures numbers { IfOk result (λ made. made.0.numbers ≡ numbers) }
-        ensures seat { IfOk result (λ made. made.1 ≡ fresh_seat made.0.id start.origin start.list (below numbers)) }
+        ensures seat { IfOk result (λ made. made.1 ≡ fresh_seat made.0.id origin.value list.value (below numbers)) }
     {
         let count = value.len();
-        let origin = Known::of();
-        let list = Known::of();
         let about = Opening {
             origin: origin.again(),
             list: list.again(),

@@ -4,6 +4,7 @@ ghost use Rattle.std.specs.Prelude.{◌≡◌, ◌%◌, ◌^◌};
 use crate::Recorded;
 use crate::view::{Stored, View};
 use known::Known;
+use std::collections::LinkedList;
 use std::marker::Model;
 
 /// A thread's seat at one lock.
@@ -43,5 +44,12 @@ impl<T, O, E> Seat<T, O, E> {
         ensures { result ≡ self.now.turns % 2 ^ 64 }
     {
         self.turns
+    }
+
+    /// The list that it has seen.
+    pub fn seen(&self) -> Known<LinkedList<E>>
+        ensures { result.value ≡ self.now.seen }
+    {
+        Known::from_pair(&self.place, &())
     }
 }

@@ -1,5 +1,5 @@
 //! The steps of one turn, at the table.
-ghost use Rattle.std.specs.Prelude.{◌≡◌, ℕ, ◌%◌, ◌^◌, ◌<◌, List, Some, length, MatchBool};
+ghost use Rattle.std.specs.Prelude.{◌≡◌, ℕ, ◌%◌, ◌^◌, ◌<◌, Some, length, MatchBool};
 ghost use Rattle.turn_lock.specs.Entries.{GoesOnByOwn};
 ghost use Rattle.turn_lock.specs.Rule.{plain_view};
 ghost use Rattle.turn_lock.specs.Seats.{IsFree, HasSlot, HasTurn};
@@ -13,6 +13,7 @@ use crate::seat::Place;
 use crate::steps::{Draw, Look, Raise, Serve};
 use crate::view::Stored;
 use known::Known;
+use std::collections::LinkedList;
 use std::sync::Wait;
 use std::thread;
 
@@ -77,14 +78,18 @@ pub(crate) fn wait_for_turn<T: Recorded + Drop, R: Wait>(
 }
 
 /// Puts the value back, raises the count, and serves the next.
-pub(crate) fn put_back<T: Recorded + Drop>(table: &SharedTable<T>, place: &mut Place<T>, value: T)
-    ghost list: { List T.Entry }
+pub(crate) fn put_back<T: Recorded + Drop>(
+    table: &SharedTable<T>,
+    place: &mut Place<T>,
+    value: T,
+    list: Known<LinkedList<T::Entry>>,
+)
     requires own { IsAtTable place.old table.now.table_id }
     requires turn { HasTurn place.old }
-    requires stands { (o : T.Origin) × (place.old.me.0.origin ≡ Some o) × T.stands value o list }
-    requires grows { GoesOnByOwn T.maker place.old.me.0.numbers place.old.me.0.list list }
+    requires stands { (o : T.Origin) × (place.old.me.0.origin ≡ Some o) × T.stands value o list.value }
+    requires grows { GoesOnByOwn T.maker place.old.me.0.numbers place.old.me.0.list list.value }
     ensures own { IsSamePlace place.old place.new × IsFree place.new }
-    ensures view { place.new.me.0 ≡ plain_view place.old.me.0.origin list place.old.me.0.numbers Idle place.old.me.0.turns }
+    ensures view { place.new.me.0 ≡ plain_view place.old.me.0.origin list.value place.old.me.0.numbers Idle place.old.me.0.turns }
 {
     let count = value.len();
     let empty = table.exchange(
@@ -92,7 +97,7 @@ pub(crate) fn put_back<T: Recorded + Drop>(table: &SharedTable<T>, place: &mut P
         0,
         Stored {
             value: Some(value),
-            list: Known::of(),
+            list,
         },
     );
     drop(empty);
