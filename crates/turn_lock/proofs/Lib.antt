@@ -1,0 +1,4 @@
+mod Sums
+mod Turning
+mod Parting
+mod Seating
