@@ -8,10 +8,10 @@ use Rattle.lua_ast.specs.declared.node.LinedNode.{LinedNode}
 use Rattle.lua_ast.specs.Decode.{ChunkNodes, Ordered, tree, own_number, node_at}
 use Rattle.lua_ast.specs.Once.{numbers_in, IsEachOnce}
 use Rattle.lua_parser.specs.Parsing.{tree_of}
-use Rattle.lua_scope.specs.declared.event.Event.{Event}
+use Rattle.lua_scope.specs.declared.occurrence.Occurrence.{Occurrence}
 use Rattle.lua_scope.specs.Loads.{LoadsAs}
-use Rattle.lua_scope.specs.OfChunk.{history_of}
-use Rattle.lua_scope.specs.Meets.{Meets, told_of}
+use Rattle.lua_scope.specs.OfChunk.{occurrences_of}
+use Rattle.lua_scope.specs.Meets.{Meets, occurrence_at}
 use Rattle.lua_scope.proofs.ToldOnce.{hits, hits_count}
 use Rattle.lua_scope.proofs.GrammarBlocks.{numbered_blocks}
 use Rattle.lua_scope.proofs.EachMet.{node_met}
@@ -40,7 +40,7 @@ in_tree c i n each at =
     counted i (numbers_in (tree own_number c.nodes c.root))
     (hits_count i (numbers_in (tree own_number c.nodes c.root)) ∙ (each i ∙ ap (λ (b : Bool). cond b 1 0) (is_lower i (length c.nodes) (lower c.nodes i n at))))
 
-pub each_node_met : (text : List ℕ) (c : ChunkNodes) (i : ℕ) (n : Node) (e : Event) → Ordered c.nodes → LoadsAs text (tree_of c) → IsEachOnce c
-    → node_at c.nodes i ≡ Some n → told_of i n ≡ Some e → (before : List Event) × Meets (history_of c) before e
+pub each_node_met : (text : List ℕ) (c : ChunkNodes) (i : ℕ) (n : Node) (e : Occurrence) → Ordered c.nodes → LoadsAs text (tree_of c) → IsEachOnce c
+    → node_at c.nodes i ≡ Some n → occurrence_at i n ≡ Some e → (before : List Occurrence) × Meets (occurrences_of c) before e
 each_node_met text c i n e ordered loads each at tells =
     node_met c ordered (numbered_blocks text loads.is_text.tokens c loads.is_text.parses) i n e (in_tree c i n each at) at tells

@@ -5,14 +5,14 @@ use Rattle.lua_ast.specs.declared.node.Node.{Node}
 use Rattle.lua_ast.specs.declared.node.Node.TheVariants as node
 use Rattle.lua_ast.specs.Tree.{Tree, Block, Local, Assign, CallStat, Do, While, Repeat, If, NumFor, GenFor, LocalFunction, Return, Break, Goto, Label, Const, Vararg, Function, Name, Index, Call, Method, Binary, Logic, Unary, Paren, Table, Missing, none}
 use Rattle.lua_ast.specs.Decode.{node_tree, list_of, PartsBelow, AllBelow}
-use Rattle.lua_scope.specs.declared.event.Event.{Event}
-use Rattle.lua_scope.specs.declared.event.Event.TheVariants as event
-use Rattle.lua_scope.specs.declared.event.Opening.TheVariants as opening
-use Rattle.lua_scope.specs.declared.event.Label.{Label as BlockLabel}
+use Rattle.lua_scope.specs.declared.occurrence.Occurrence.{Occurrence}
+use Rattle.lua_scope.specs.declared.occurrence.Occurrence.TheVariants as occurrence
+use Rattle.lua_scope.specs.declared.occurrence.ScopeKind.TheVariants as kind
+use Rattle.lua_scope.specs.declared.occurrence.Label.{Label as BlockLabel}
 use Rattle.lua_scope.specs.declared.task.Task.TheVariants.{Emit}
 use Rattle.lua_scope.specs.declared.block.Statements.{Statements}
 use Rattle.lua_scope.specs.Labels.{labels_of}
-use Rattle.lua_scope.specs.History.{opens, stats_history, body_history}
+use Rattle.lua_scope.specs.Walk.{opens, stats_walked, body_walked}
 use Rattle.lua_scope.specs.Tasks.{walks}
 use Rattle.lua_scope.specs.Walking.{size, list_size, body_size, weights}
 use Rattle.lua_scope.specs.Scanned.{Scanned, block_stats, stats_in}
@@ -104,8 +104,8 @@ stats_below i (node.Unary op operand) wanted e b = absurd cc
 stats_below i (node.Paren inner) wanted e b = absurd cc
 stats_below i (node.Table fields) wanted e b = absurd cc
 
-body_opens : (r : Bool) (h : List Event) (t : Tree) → body_history r h t ≡ stats_history (opens r (stats_in t) ∷ h) (stats_in t)
-unfolding body_history
+body_opens : (r : Bool) (h : List Occurrence) (t : Tree) → body_walked r h t ≡ stats_walked (opens r (stats_in t) ∷ h) (stats_in t)
+unfolding body_walked
 body_opens r h (Block a b c) = refl
 body_opens r h (Local a b c d) = refl
 body_opens r h (Assign a b c d) = refl
@@ -167,11 +167,11 @@ body_weighs (Table a b c) = refl
 body_weighs Missing = refl
 
 pub body_walk : (part : ℕ → Tree) (n : ℕ) (t : Tree) (s : Statements) → Scanned part n (stats_in t) s → (r : Bool) (inside : ℕ) → inside ≡ (if r then length s.labels else s.inside)
-    → (h : List Event) → walks part h (Emit (event.Open (opening.Block s.labels inside)) ∷ s.tasks) ≡ body_history r h t
+    → (h : List Occurrence) → walks part h (Emit (occurrence.Open (kind.Block s.labels inside)) ∷ s.tasks) ≡ body_walked r h t
 body_walk part n t s all r inside e h =
-    all.walk (event.Open (opening.Block s.labels inside) ∷ h)
-    ∙ (ap (λ (ls : List BlockLabel). stats_history (event.Open (opening.Block ls inside) ∷ h) (stats_in t)) all.labels
-    ∙ (ap (λ (k : ℕ). stats_history (event.Open (opening.Block (labels_of (stats_in t)) k) ∷ h) (stats_in t))
+    all.walk (occurrence.Open (kind.Block s.labels inside) ∷ h)
+    ∙ (ap (λ (ls : List BlockLabel). stats_walked (occurrence.Open (kind.Block ls inside) ∷ h) (stats_in t)) all.labels
+    ∙ (ap (λ (k : ℕ). stats_walked (occurrence.Open (kind.Block (labels_of (stats_in t)) k) ∷ h) (stats_in t))
     (e ∙ (ap (λ (ls : List BlockLabel). (if r then length ls else s.inside)) all.labels ∙ ap (λ (k : ℕ). (if r then length (labels_of (stats_in t)) else k)) all.inside))
     ∙ sym (body_opens r h t)))
 

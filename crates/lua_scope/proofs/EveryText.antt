@@ -9,12 +9,11 @@ use Rattle.lua_grammar.specs.Parses.{Parses, Reading, parsed, unexpected, too_de
 use Rattle.lua_parser.specs.declared.parse_error.ParseError.{ParseError}
 use Rattle.lua_parser.specs.declared.parse_error.ParseError.TheVariants as parse_error
 use Rattle.lua_parser.specs.Parsing.{IsRefusal}
-use Rattle.lua_scope.specs.declared.refusal.Refusal.{Refusal}
 use Rattle.lua_scope.specs.declared.load_error.LoadError.{LoadError}
 use Rattle.lua_scope.specs.declared.load_error.LoadError.TheVariants as error
-use Rattle.lua_scope.specs.History.{history}
+use Rattle.lua_scope.specs.Walk.{walked}
 use Rattle.lua_scope.specs.Refusals.{first_refusal}
-use Rattle.lua_scope.specs.Loads.{most_text, HasTokensOf, Loads, LoadFails, too_long, no_tokens, no_text, breaks_a_rule, scope_error}
+use Rattle.lua_scope.specs.Loads.{most_text, HasTokensOf, Loads, LoadFails, too_long, no_tokens, no_text, breaks_a_rule}
 
 -- What the layers below are known for.
 abbrev pub Lexed : List ℕ → Type 0
@@ -44,14 +43,14 @@ read text ts (unexpected n) is =
 read text ts (too_deep n) is =
     let there : (t : Token) × (slice_get ts n ≡ Some t) = token-there ts n is.refused.within in
     inr (parse_error.TooDeep there.0.start, (λ e. cc), (n, there.0, there.1, refl, is))
-read text ts unfinished is = inr (parse_error.EndOfText, (λ e. cc), is)
+read text ts unfinished is = inr (parse_error.EndOfText (length text), (λ e. cc), (refl, is))
 
-by-rules : (text : List ℕ) (t : Tree) → length text ≤ most_text → HasTokensOf text t → (first : Option Refusal) → first_refusal (history [] t) ≡ first → Answered text
+by-rules : (text : List ℕ) (t : Tree) → length text ≤ most_text → HasTokensOf text t → (first : Option LoadError) → first_refusal (walked [] t) ≡ first → Answered text
 by-rules text t short is None clear = inl (t, record { short = short; is_text = is; clear = clear })
-by-rules text t short is (Some r) refused = inr (scope_error r, breaks_a_rule r t refl short is refused)
+by-rules text t short is (Some e) refused = inr (e, breaks_a_rule t short is refused)
 
 by-grammar : (text : List ℕ) (ts : List Token) → length text ≤ most_text → Lexes text ts → Read text ts → Answered text
-by-grammar text ts short lexes (inl p) = by-rules text p.0 short (record { tokens = ts; lexes = lexes; parses = p.1 }) (first_refusal (history [] p.0)) refl
+by-grammar text ts short lexes (inl p) = by-rules text p.0 short (record { tokens = ts; lexes = lexes; parses = p.1 }) (first_refusal (walked [] p.0)) refl
 by-grammar text ts short lexes (inr f) = inr (error.Parse f.0, no_text f.0 ts refl short lexes f.1 f.2)
 
 by-tokens : SomeReading → (text : List ℕ) → length text ≤ most_text → Lexed text → Answered text

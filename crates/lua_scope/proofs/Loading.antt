@@ -1,5 +1,5 @@
 -- The scope rules of a chunk are those of its tree without numbers.
-use Rattle.std.proofs.Common.{◌≡◌, ◌≤◌, ℕ, List, [], length, Some, refl, sym, ap, ◌∙◌}
+use Rattle.std.proofs.Common.{◌≡◌, ◌≤◌, ℕ, List, [], length, Option, Some, refl, sym, ap, ◌∙◌}
 use Rattle.lua_lexer.specs.declared.lex_error.LexError.{LexError}
 use Rattle.lua_lexer.specs.declared.lex_error.LexError.TheVariants as lex_error
 use Rattle.lua_lexer.specs.Lexes.{Lexes}
@@ -8,23 +8,21 @@ use Rattle.lua_ast.specs.Tree.{Tree}
 use Rattle.lua_ast.specs.Decode.{ChunkNodes, tree, own_number}
 use Rattle.lua_ast.proofs.LabelsOnly.{tree_without}
 use Rattle.lua_parser.specs.Parsing.{tree_of}
-use Rattle.lua_scope.specs.declared.refusal.Refusal.{Refusal}
-use Rattle.lua_scope.specs.declared.refusal.Refusal.TheVariants as refusal
-use Rattle.lua_scope.specs.Loads.{most_text, HasTokensOf, no_tokens, no_text, breaks_a_rule, scope_error, of_lex, of_parse, of_scope, IsLoadFailure}
-use Rattle.lua_scope.specs.declared.refusal.ScopeError.{ScopeError}
-use Rattle.lua_scope.specs.declared.refusal.ScopeError.TheVariants as scope
-use Rattle.lua_scope.specs.Resolved.{TellsRefusal}
+use Rattle.lua_scope.specs.Loads.{most_text, HasTokensOf, no_tokens, no_text, breaks_a_rule, of_lex, of_parse, IsLoadFailure}
+use Rattle.lua_scope.specs.declared.load_error.LoadError.{LoadError}
+use Rattle.lua_scope.specs.declared.load_error.LoadError.TheVariants as error
+use Rattle.lua_scope.specs.Resolved.{IsFirstRefusal}
 use Rattle.lua_lexer.specs.declared.token.Token.{Token}
 use Rattle.lua_parser.specs.declared.parse_error.ParseError.{ParseError}
 use Rattle.lua_parser.specs.declared.parse_error.ParseError.TheVariants as parse_error
 use Rattle.lua_parser.specs.Parsing.{IsRefusal}
-use Rattle.lua_scope.specs.History.{history}
+use Rattle.lua_scope.specs.Walk.{walked}
 use Rattle.lua_scope.specs.Refusals.{first_refusal}
-use Rattle.lua_scope.specs.OfChunk.{history_of}
+use Rattle.lua_scope.specs.OfChunk.{occurrences_of}
 use Rattle.lua_scope.proofs.PlainRefusals.{numbers_refuse_nothing}
 
-pub same_refusals : (c : ChunkNodes) → first_refusal (history [] (tree_of c)) ≡ first_refusal (history_of c)
-same_refusals c = ap (λ (t : Tree). first_refusal (history [] t)) (sym (tree_without own_number c.nodes c.root)) ∙ numbers_refuse_nothing (tree own_number c.nodes c.root)
+pub same_refusals : (c : ChunkNodes) → first_refusal (walked [] (tree_of c)) ≡ first_refusal (occurrences_of c)
+same_refusals c = ap (λ (t : Tree). first_refusal (walked [] t)) (sym (tree_without own_number c.nodes c.root)) ∙ numbers_refuse_nothing (tree own_number c.nodes c.root)
 
 -- What the layers below refuse does not load.
 pub lex_fails : (text : List ℕ) (e : LexError) → length text ≤ most_text → IsLexRefusal text e → IsLoadFailure text (of_lex e)
@@ -40,16 +38,28 @@ pub parse_fails : (text : List ℕ) (ts : List Token) (e : ParseError) → lengt
 parse_fails text ts parse_error.NoMemory short lexes is = tt
 parse_fails text ts (parse_error.Unexpected at) short lexes is = no_text (parse_error.Unexpected at) ts refl short lexes (λ e. cc) is
 parse_fails text ts (parse_error.TooDeep at) short lexes is = no_text (parse_error.TooDeep at) ts refl short lexes (λ e. cc) is
-parse_fails text ts parse_error.EndOfText short lexes is = no_text parse_error.EndOfText ts refl short lexes (λ e. cc) is
+parse_fails text ts (parse_error.EndOfText len) short lexes is = no_text (parse_error.EndOfText len) ts refl short lexes (λ e. cc) is
 
 -- A text that breaks a scope rule does not load.
-rule_fails : (text : List ℕ) (r : Refusal) (t : Tree) → length text ≤ most_text → HasTokensOf text t → first_refusal (history [] t) ≡ Some r → IsLoadFailure text (scope_error r)
-rule_fails text (refusal.NoLabel l) t short is refused = breaks_a_rule (refusal.NoLabel l) t refl short is refused
-rule_fails text (refusal.TwoLabels l) t short is refused = breaks_a_rule (refusal.TwoLabels l) t refl short is refused
-rule_fails text (refusal.JumpsIntoLocal l) t short is refused = breaks_a_rule (refusal.JumpsIntoLocal l) t refl short is refused
-rule_fails text (refusal.BreakOutside l) t short is refused = breaks_a_rule (refusal.BreakOutside l) t refl short is refused
-rule_fails text (refusal.VarargOutside l) t short is refused = breaks_a_rule (refusal.VarargOutside l) t refl short is refused
+pub rule_fails : (text : List ℕ) (e : LoadError) (t : Tree) → length text ≤ most_text → HasTokensOf text t → IsFirstRefusal (first_refusal (walked [] t)) e → IsLoadFailure text e
+rule_fails text error.NoMemory t short is refused = tt
+rule_fails text (error.TextTooLong n) t short is refused = breaks_a_rule t short is refused
+rule_fails text (error.Lex f) t short is refused = breaks_a_rule t short is refused
+rule_fails text (error.Parse f) t short is refused = breaks_a_rule t short is refused
+rule_fails text (error.NoLabel l) t short is refused = breaks_a_rule t short is refused
+rule_fails text (error.TwoLabels l) t short is refused = breaks_a_rule t short is refused
+rule_fails text (error.JumpsIntoLocal l) t short is refused = breaks_a_rule t short is refused
+rule_fails text (error.BreakOutside l) t short is refused = breaks_a_rule t short is refused
+rule_fails text (error.VarargOutside l) t short is refused = breaks_a_rule t short is refused
 
-pub scope_fails : (text : List ℕ) (e : ScopeError) (t : Tree) → length text ≤ most_text → HasTokensOf text t → TellsRefusal e (first_refusal (history [] t)) → IsLoadFailure text (of_scope e)
-scope_fails text scope.NoMemory t short is tells = tt
-scope_fails text (scope.Refused r) t short is tells = rule_fails text r t short is tells
+-- What is refused first is not want of memory's doing.
+pub first_is_refused : (first : Option LoadError) (e : LoadError) → first ≡ Some e → IsFirstRefusal first e
+first_is_refused first error.NoMemory is = tt
+first_is_refused first (error.TextTooLong n) is = is
+first_is_refused first (error.Lex f) is = is
+first_is_refused first (error.Parse f) is = is
+first_is_refused first (error.NoLabel l) is = is
+first_is_refused first (error.TwoLabels l) is = is
+first_is_refused first (error.JumpsIntoLocal l) is = is
+first_is_refused first (error.BreakOutside l) is = is
+first_is_refused first (error.VarargOutside l) is = is

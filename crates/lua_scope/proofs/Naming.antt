@@ -7,19 +7,10 @@ use Rattle.std.specs.Cmp.Lexicographic.{bytes_decides, nat_list_eq_equiv}
 use Rattle.std.proofs.lemmas.List.{reverse-append, map-append}
 use Rattle.lua_scope.specs.declared.frame.Variable.{Variable}
 use Rattle.lua_scope.specs.declared.frame.Entered.{Entered}
-use Rattle.lua_scope.specs.Variables.{variable_named}
+use Rattle.lua_scope.specs.Variables.{first_named, variable_named}
 use Rattle.lua_scope.specs.ByName.{at_name}
-use Rattle.lua_scope.specs.Visible.{variables_of, first_named, IsIndexed}
+use Rattle.lua_scope.specs.Visible.{variables_of, IsIndexed}
 use Rattle.lua_scope.proofs.Reversed.{reverse_push}
-
-found : (b : Bool) (v : Variable) (rest : Option Variable) (more : Option ℕ) → option_map (λ (w : Variable). w.number) rest ≡ more
-    → option_map (λ (w : Variable). w.number) (cond b (Some v) rest) ≡ cond b (Some v.number) more
-found true v rest more e = refl
-found false v rest more e = e
-
-find_first : (x : List ℕ) (es : List Entered) → option_map (λ (v : Variable). v.number) (find (λ (v : Variable). bytes_eq v.name x) (variables_of es)) ≡ first_named x es
-find_first x [] = refl
-find_first x (e ∷ es) = found (bytes_eq e.variable.name x) e.variable _ _ (find_first x es)
 
 reverse_variables : (es : List Entered) → reverse (variables_of es) ≡ variables_of (reverse es)
 reverse_variables [] = refl
@@ -28,13 +19,17 @@ reverse_variables (e ∷ es) =
     (ap (λ (vs : List Variable). vs ++ e.variable ∷ []) (reverse_variables es) ∙
     sym (ap variables_of (reverse-append (e ∷ []) es) ∙ map-append (λ (e : Entered). e.variable) (reverse es) (e ∷ [])))
 
-pub first_is_named : (x : List ℕ) (es : List Entered) → first_named x (reverse es) ≡ variable_named x (variables_of es)
-first_is_named x es =
-    sym (ap (λ (vs : List Variable). option_map (λ (v : Variable). v.number) (find (λ (v : Variable). bytes_eq v.name x) vs)) (reverse_variables es) ∙ find_first x (reverse es))
+pub first_is_named : (x : List ℕ) (es : List Entered) → first_named x (variables_of (reverse es)) ≡ variable_named x (variables_of es)
+first_is_named x es = sym (ap (first_named x) (reverse_variables es))
 
-newest : (b : Bool) (n : ℕ) (o : Option (Option ℕ)) (p : Option ℕ) → option_flatten o ≡ p → option_flatten (cond b (Some (Some n)) o) ≡ cond b (Some n) p
-newest true n o p e = refl
-newest false n o p e = e
+newest : (b : Bool) (v : Variable) (o : Option (Option ℕ)) (rest : Option Variable) → option_flatten o ≡ option_map (λ (w : Variable). w.number) rest
+    → option_flatten (cond b (Some (Some v.number)) o) ≡ option_map (λ (w : Variable). w.number) (cond b (Some v) rest)
+newest true v o rest e = refl
+newest false v o rest e = e
+
+-- the first variable of a name
+abbrev found_in : List ℕ → List Variable → Option Variable
+found_in x vs = find (λ (v : Variable). bytes_eq v.name x) vs
 
 module _ {Z : Type 0} (es : List Entered) (m new : BTreeMap (Vec ℕ Z) (Option ℕ)) where
   pub entered_next : (name : List ℕ) (number : ℕ) (hidden : Option ℕ) → IsIndexed (reverse es) m → hidden ≡ option_flatten (at_name name m)
@@ -43,14 +38,14 @@ module _ {Z : Type 0} (es : List Entered) (m new : BTreeMap (Vec ℕ Z) (Option 
   entered_next name number hidden i h put =
       let e : Entered = record { variable = record { name = name; number = number }; hidden = hidden }
       in subst (λ (fs : List Entered). IsIndexed fs new) (sym (reverse_push es e)) (record {
-        meaning_is = λ x. ap option_flatten (put x) ∙ newest (bytes_eq name x) number (at_name x m) (first_named x (reverse es)) (i.meaning_is x);
+        meaning_is = λ x. ap option_flatten (put x) ∙ newest (bytes_eq name x) (record { name = name; number = number }) (at_name x m) (found_in x (variables_of (reverse es))) (i.meaning_is x);
         hide_those = (h ∙ i.meaning_is name, i.hide_those);
       })
 
   restored : (e : Entered) → IsIndexed (e ∷ reverse es) m → (x : List ℕ) (b : Bool) → bytes_eq e.variable.name x ≡ b
-      → option_flatten (cond b (Some e.hidden) (at_name x m)) ≡ first_named x (reverse es)
-  restored e i x true is = i.hide_those.0 ∙ ap (λ (y : List ℕ). first_named y (reverse es)) ((bytes_decides e.variable.name x).0 is)
-  restored e i x false is = i.meaning_is x ∙ ap (λ (b : Bool). cond b (Some e.variable.number) (first_named x (reverse es))) is
+      → option_flatten (cond b (Some e.hidden) (at_name x m)) ≡ first_named x (variables_of (reverse es))
+  restored e i x true is = i.hide_those.0 ∙ ap (λ (y : List ℕ). first_named y (variables_of (reverse es))) ((bytes_decides e.variable.name x).0 is)
+  restored e i x false is = i.meaning_is x ∙ ap (λ (b : Bool). option_map (λ (w : Variable). w.number) (cond b (Some e.variable) (found_in x (variables_of (reverse es))))) is
 
   pub left_last : (e : Entered) → IsIndexed (reverse (es ++ e ∷ [])) m
       → ((x : List ℕ) → at_name x new ≡ cond (bytes_eq e.variable.name x) (Some e.hidden) (at_name x m))
@@ -69,4 +64,4 @@ some_inside (Some o) n e = refl
 pub has_last : {Z : Type 0} (es : List Entered) (e : Entered) (m : BTreeMap (Vec ℕ Z) (Option ℕ)) → IsIndexed (reverse (es ++ e ∷ [])) m → IsSome (at_name e.variable.name m)
 has_last es e m i =
     let j : IsIndexed (e ∷ reverse es) m = subst (λ (fs : List Entered). IsIndexed fs m) (reverse_push es e) i
-    in some_inside (at_name e.variable.name m) e.variable.number (j.meaning_is e.variable.name ∙ ap (λ (b : Bool). cond b (Some e.variable.number) (first_named e.variable.name (reverse es))) (nat_list_eq_equiv.refl e.variable.name))
+    in some_inside (at_name e.variable.name m) e.variable.number (j.meaning_is e.variable.name ∙ ap (λ (b : Bool). option_map (λ (w : Variable). w.number) (cond b (Some e.variable) (found_in e.variable.name (variables_of (reverse es))))) (nat_list_eq_equiv.refl e.variable.name))

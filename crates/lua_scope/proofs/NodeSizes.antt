@@ -7,8 +7,8 @@ use Rattle.lua_ast.specs.declared.node.Field.{Field}
 use Rattle.lua_ast.specs.declared.node.Field.TheVariants as field
 use Rattle.lua_ast.specs.Tree.{Tree, Trees, none, snoc, Cases, no_case, case, Fields, no_field}
 use Rattle.lua_ast.specs.Decode.{node_tree, list_after, list_of, cases_after, cases_of, with_field, fields_after, fields_of, maybe_of, PartsBelow, AllBelow, MaybeBelow, FieldsBelow}
-use Rattle.lua_scope.specs.declared.event.Event.TheVariants as event
-use Rattle.lua_scope.specs.declared.event.Opening.TheVariants as opening
+use Rattle.lua_scope.specs.declared.occurrence.Occurrence.TheVariants as occurrence
+use Rattle.lua_scope.specs.declared.occurrence.ScopeKind.TheVariants as kind
 use Rattle.lua_scope.specs.declared.task.Task.TheVariants.{Visit, Emit}
 use Rattle.lua_scope.specs.Tasks.{visits, maybe_task, case_tasks, field_tasks, tasks_of}
 use Rattle.lua_scope.specs.Walking.{size, list_size, cases_size, maybe_size, fields_size, body_size, weights, TasksBelow}
@@ -53,7 +53,7 @@ module _ (part : ℕ → Tree) where
   pub node_weighs : (i l : ℕ) (x : Node) → part i ≡ node_tree part i l x → weights part (tasks_of i l x) < size (node_tree part i l x)
   unfolding size
   node_weighs i l (node.Block stats) e = omega (arith, ap body_size e)
-  node_weighs i l (node.Local names exps) e = omega (arith, weights_append part (visits exps) (Emit (event.Enter i names) ∷ []), weighs_list exps)
+  node_weighs i l (node.Local names exps) e = omega (arith, weights_append part (visits exps) (Emit (occurrence.Enter i names) ∷ []), weighs_list exps)
   node_weighs i l (node.Assign targets exps) e = omega (arith, weights_append part (visits targets) (visits exps), weighs_list targets, weighs_list exps)
   node_weighs i l (node.CallStat call) e = omega arith
   node_weighs i l (node.Do block) e = omega arith
@@ -61,9 +61,9 @@ module _ (part : ℕ → Tree) where
   node_weighs i l (node.Repeat block test) e = omega arith
   node_weighs i l (node.If tests blocks otherwise) e = omega (arith, weights_append part (case_tasks tests blocks) (maybe_task otherwise), weighs_cases tests blocks, weighs_maybe otherwise)
   node_weighs i l (node.NumFor name first limit step block) e =
-      omega (arith, weights_append part (maybe_task step) (Emit (event.Open opening.Loop) ∷ Emit (event.Enter i (name ∷ [])) ∷ Visit block ∷ Emit event.Close ∷ []), weighs_maybe step)
+      omega (arith, weights_append part (maybe_task step) (Emit (occurrence.Open kind.Loop) ∷ Emit (occurrence.Enter i (name ∷ [])) ∷ Visit block ∷ Emit occurrence.Close ∷ []), weighs_maybe step)
   node_weighs i l (node.GenFor names exps block) e =
-      omega (arith, weights_append part (visits exps) (Emit (event.Open opening.Loop) ∷ Emit (event.Enter i names) ∷ Visit block ∷ Emit event.Close ∷ []), weighs_list exps)
+      omega (arith, weights_append part (visits exps) (Emit (occurrence.Open kind.Loop) ∷ Emit (occurrence.Enter i names) ∷ Visit block ∷ Emit occurrence.Close ∷ []), weighs_list exps)
   node_weighs i l (node.LocalFunction name function) e = omega arith
   node_weighs i l (node.Return exps) e = omega (arith, weighs_list exps)
   node_weighs i l node.Break e = omega arith
@@ -104,7 +104,7 @@ module _ (n m : ℕ) (less : n ≤ m) where
 
   pub node_below : (i l : ℕ) (x : Node) → i < m → PartsBelow n x → TasksBelow m (tasks_of i l x)
   node_below i l (node.Block stats) h b = (h, (tt, tt))
-  node_below i l (node.Local names exps) h b = (h, below_append m (visits exps) (Emit (event.Enter i names) ∷ []) (visits_below exps b) (h, tt))
+  node_below i l (node.Local names exps) h b = (h, below_append m (visits exps) (Emit (occurrence.Enter i names) ∷ []) (visits_below exps b) (h, tt))
   node_below i l (node.Assign targets exps) h b = below_append m (visits targets) (visits exps) (visits_below targets b.0) (visits_below exps b.1)
   node_below i l (node.CallStat call) h b = (omega (arith, b), tt)
   node_below i l (node.Do block) h b = (omega (arith, b), tt)
@@ -113,9 +113,9 @@ module _ (n m : ℕ) (less : n ≤ m) where
   node_below i l (node.If tests blocks otherwise) h b =
       below_append m (case_tasks tests blocks) (maybe_task otherwise) (cases_below tests blocks b.0 b.1) (maybe_below otherwise b.2)
   node_below i l (node.NumFor name first limit step block) h b =
-      (h, (omega (arith, b.0), (omega (arith, b.1), below_append m (maybe_task step) (Emit (event.Open opening.Loop) ∷ Emit (event.Enter i (name ∷ [])) ∷ Visit block ∷ Emit event.Close ∷ []) (maybe_below step b.2) (tt, (h, (omega (arith, b.3), (tt, tt)))))))
+      (h, (omega (arith, b.0), (omega (arith, b.1), below_append m (maybe_task step) (Emit (occurrence.Open kind.Loop) ∷ Emit (occurrence.Enter i (name ∷ [])) ∷ Visit block ∷ Emit occurrence.Close ∷ []) (maybe_below step b.2) (tt, (h, (omega (arith, b.3), (tt, tt)))))))
   node_below i l (node.GenFor names exps block) h b =
-      (h, below_append m (visits exps) (Emit (event.Open opening.Loop) ∷ Emit (event.Enter i names) ∷ Visit block ∷ Emit event.Close ∷ []) (visits_below exps b.0) (tt, (h, (omega (arith, b.1), (tt, tt)))))
+      (h, below_append m (visits exps) (Emit (occurrence.Open kind.Loop) ∷ Emit (occurrence.Enter i names) ∷ Visit block ∷ Emit occurrence.Close ∷ []) (visits_below exps b.0) (tt, (h, (omega (arith, b.1), (tt, tt)))))
   node_below i l (node.LocalFunction name function) h b = (h, (h, (omega (arith, b), tt)))
   node_below i l (node.Return exps) h b = visits_below exps b
   node_below i l node.Break h b = (tt, tt)

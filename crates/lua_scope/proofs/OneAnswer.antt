@@ -10,9 +10,9 @@ use Rattle.lua_parser.specs.declared.parse_error.ParseError.TheVariants as parse
 use Rattle.lua_parser.specs.Parsing.{IsRefusal}
 use Rattle.lua_scope.specs.declared.load_error.LoadError.{LoadError}
 use Rattle.lua_scope.specs.declared.load_error.LoadError.TheVariants as error
-use Rattle.lua_scope.specs.History.{history}
+use Rattle.lua_scope.specs.Walk.{walked}
 use Rattle.lua_scope.specs.Refusals.{first_refusal}
-use Rattle.lua_scope.specs.Loads.{most_text, HasTokensOf, LoadsAs, LoadFails, too_long, no_tokens, no_text, breaks_a_rule, scope_error}
+use Rattle.lua_scope.specs.Loads.{most_text, HasTokensOf, LoadsAs, LoadFails, too_long, no_tokens, no_text, breaks_a_rule}
 
 -- What the layers below are known for.
 abbrev pub OneTokens : Type 0
@@ -35,7 +35,7 @@ parsed-or-refused : OneReading → (text : List ℕ) (ts : List Token) (t : Tree
 parsed-or-refused one text ts t parse_error.NoMemory p other is = other refl
 parsed-or-refused one text ts t (parse_error.Unexpected at) p other is = let e : parsed t ≡ unexpected is.0 = one text ts (parsed t) (unexpected is.0) p is.4 in cc
 parsed-or-refused one text ts t (parse_error.TooDeep at) p other is = let e : parsed t ≡ too_deep is.0 = one text ts (parsed t) (too_deep is.0) p is.4 in cc
-parsed-or-refused one text ts t parse_error.EndOfText p other is = let e : parsed t ≡ unfinished = one text ts (parsed t) unfinished p is in cc
+parsed-or-refused one text ts t (parse_error.EndOfText len) p other is = let e : parsed t ≡ unfinished = one text ts (parsed t) unfinished p is.1 in cc
 
 -- One token stands at a place.
 same-start : (ts : List Token) (m n : ℕ) (s t : Token) (a b : ℕ) → m ≡ n → slice_get ts m ≡ Some s → slice_get ts n ≡ Some t → s.start ≡ a → t.start ≡ b → a ≡ b
@@ -53,15 +53,15 @@ one-refusal one text ts parse_error.NoMemory g other also is it = absurd (other 
 one-refusal one text ts (parse_error.Unexpected a) parse_error.NoMemory other also is it = absurd (also refl)
 one-refusal one text ts (parse_error.Unexpected a) (parse_error.Unexpected b) other also is it = ap parse_error.Unexpected (same-start ts is.0 it.0 is.1 it.1 a b (unexpected-same is.0 it.0 (one text ts (unexpected is.0) (unexpected it.0) is.4 it.4)) is.2 it.2 is.3 it.3)
 one-refusal one text ts (parse_error.Unexpected a) (parse_error.TooDeep b) other also is it = absurd (let e : unexpected is.0 ≡ too_deep it.0 = one text ts (unexpected is.0) (too_deep it.0) is.4 it.4 in cc)
-one-refusal one text ts (parse_error.Unexpected a) parse_error.EndOfText other also is it = absurd (let e : unexpected is.0 ≡ unfinished = one text ts (unexpected is.0) unfinished is.4 it in cc)
+one-refusal one text ts (parse_error.Unexpected a) (parse_error.EndOfText b) other also is it = absurd (let e : unexpected is.0 ≡ unfinished = one text ts (unexpected is.0) unfinished is.4 it.1 in cc)
 one-refusal one text ts (parse_error.TooDeep a) parse_error.NoMemory other also is it = absurd (also refl)
 one-refusal one text ts (parse_error.TooDeep a) (parse_error.Unexpected b) other also is it = absurd (let e : too_deep is.0 ≡ unexpected it.0 = one text ts (too_deep is.0) (unexpected it.0) is.4 it.4 in cc)
 one-refusal one text ts (parse_error.TooDeep a) (parse_error.TooDeep b) other also is it = ap parse_error.TooDeep (same-start ts is.0 it.0 is.1 it.1 a b (deep-same is.0 it.0 (one text ts (too_deep is.0) (too_deep it.0) is.4 it.4)) is.2 it.2 is.3 it.3)
-one-refusal one text ts (parse_error.TooDeep a) parse_error.EndOfText other also is it = absurd (let e : too_deep is.0 ≡ unfinished = one text ts (too_deep is.0) unfinished is.4 it in cc)
-one-refusal one text ts parse_error.EndOfText parse_error.NoMemory other also is it = absurd (also refl)
-one-refusal one text ts parse_error.EndOfText (parse_error.Unexpected b) other also is it = absurd (let e : unfinished ≡ unexpected it.0 = one text ts unfinished (unexpected it.0) is it.4 in cc)
-one-refusal one text ts parse_error.EndOfText (parse_error.TooDeep b) other also is it = absurd (let e : unfinished ≡ too_deep it.0 = one text ts unfinished (too_deep it.0) is it.4 in cc)
-one-refusal one text ts parse_error.EndOfText parse_error.EndOfText other also is it = refl
+one-refusal one text ts (parse_error.TooDeep a) (parse_error.EndOfText b) other also is it = absurd (let e : too_deep is.0 ≡ unfinished = one text ts (too_deep is.0) unfinished is.4 it.1 in cc)
+one-refusal one text ts (parse_error.EndOfText a) parse_error.NoMemory other also is it = absurd (also refl)
+one-refusal one text ts (parse_error.EndOfText a) (parse_error.Unexpected b) other also is it = absurd (let e : unfinished ≡ unexpected it.0 = one text ts unfinished (unexpected it.0) is.1 it.4 in cc)
+one-refusal one text ts (parse_error.EndOfText a) (parse_error.TooDeep b) other also is it = absurd (let e : unfinished ≡ too_deep it.0 = one text ts unfinished (too_deep it.0) is.1 it.4 in cc)
+one-refusal one text ts (parse_error.EndOfText a) (parse_error.EndOfText b) other also is it = ap parse_error.EndOfText (is.0 ∙ sym it.0)
 
 parsed-same : (s t : Tree) → parsed s ≡ parsed t → s ≡ t
 parsed-same s t e = cc
@@ -81,28 +81,28 @@ pub loads-or-fails : OneTokens → LexesOrFails → OneReading → (text : List 
 loads-or-fails tokens apart one text t e a (too_long is long) = let short : length text ≤ most_text = a.short in omega arith
 loads-or-fails tokens apart one text t e a (no_tokens f is short fails) = apart text a.is_text.tokens f a.is_text.lexes fails
 loads-or-fails tokens apart one text t e a (no_text f ts is short lexes other refused) = refused-text tokens one text t ts f a.is_text lexes other refused
-loads-or-fails tokens apart one text t e a (breaks_a_rule r u is short b refused) =
-    let same : first_refusal (history [] t) ≡ Some r = ap (λ (x : Tree). first_refusal (history [] x)) (one-tree tokens one text t u a.is_text b) ∙ refused in
-    let clear : first_refusal (history [] t) ≡ None = a.clear in cc
+loads-or-fails tokens apart one text t e a (breaks_a_rule u short b refused) =
+    let same : first_refusal (walked [] t) ≡ Some e = ap (λ (x : Tree). first_refusal (walked [] x)) (one-tree tokens one text t u a.is_text b) ∙ refused in
+    let clear : first_refusal (walked [] t) ≡ None = a.clear in cc
 
 -- A text has one refusal.
 pub one-error : OneTokens → OneLexError → LexesOrFails → OneReading → (text : List ℕ) (d e : LoadError) → LoadFails text d → LoadFails text e → d ≡ e
 one-error tokens lex apart one text d e (too_long is long) (too_long it also) = is ∙ sym it
 one-error tokens lex apart one text d e (too_long is long) (no_tokens f it short fails) = absurd (omega arith)
 one-error tokens lex apart one text d e (too_long is long) (no_text f ts it short lexes other refused) = absurd (omega arith)
-one-error tokens lex apart one text d e (too_long is long) (breaks_a_rule r t it short a refused) = absurd (omega arith)
+one-error tokens lex apart one text d e (too_long is long) (breaks_a_rule t short a refused) = absurd (omega arith)
 one-error tokens lex apart one text d e (no_tokens f is short fails) (too_long it long) = absurd (omega arith)
 one-error tokens lex apart one text d e (no_tokens f is short fails) (no_tokens g it brief also) = is ∙ ap error.Lex (lex text f g fails also) ∙ sym it
 one-error tokens lex apart one text d e (no_tokens f is short fails) (no_text g ts it brief lexes other refused) = absurd (apart text ts f lexes fails)
-one-error tokens lex apart one text d e (no_tokens f is short fails) (breaks_a_rule r t it brief a refused) = absurd (apart text a.tokens f a.lexes fails)
+one-error tokens lex apart one text d e (no_tokens f is short fails) (breaks_a_rule t brief a refused) = absurd (apart text a.tokens f a.lexes fails)
 one-error tokens lex apart one text d e (no_text f ts is short lexes other refused) (too_long it long) = absurd (omega arith)
 one-error tokens lex apart one text d e (no_text f ts is short lexes other refused) (no_tokens g it brief fails) = absurd (apart text ts g lexes fails)
 one-error tokens lex apart one text d e (no_text f ts is short lexes other refused) (no_text g us it brief too also too_refused) =
     is ∙ ap error.Parse (one-refusal one text ts f g other also refused (subst (λ (xs : List Token). IsRefusal text xs g) (tokens text us ts too lexes) too_refused)) ∙ sym it
-one-error tokens lex apart one text d e (no_text f ts is short lexes other refused) (breaks_a_rule r t it brief a also) = absurd (refused-text tokens one text t ts f a lexes other refused)
-one-error tokens lex apart one text d e (breaks_a_rule r t is short a refused) (too_long it long) = absurd (omega arith)
-one-error tokens lex apart one text d e (breaks_a_rule r t is short a refused) (no_tokens g it brief fails) = absurd (apart text a.tokens g a.lexes fails)
-one-error tokens lex apart one text d e (breaks_a_rule r t is short a refused) (no_text g ts it brief lexes other also) = absurd (refused-text tokens one text t ts g a lexes other also)
-one-error tokens lex apart one text d e (breaks_a_rule r t is short a refused) (breaks_a_rule q u it brief b also) =
-    let same : Some r ≡ Some q = sym refused ∙ ap (λ (x : Tree). first_refusal (history [] x)) (one-tree tokens one text t u a b) ∙ also in
-    is ∙ ap scope_error (some-same r q same) ∙ sym it
+one-error tokens lex apart one text d e (no_text f ts is short lexes other refused) (breaks_a_rule t brief a also) = absurd (refused-text tokens one text t ts f a lexes other refused)
+one-error tokens lex apart one text d e (breaks_a_rule t short a refused) (too_long it long) = absurd (omega arith)
+one-error tokens lex apart one text d e (breaks_a_rule t short a refused) (no_tokens g it brief fails) = absurd (apart text a.tokens g a.lexes fails)
+one-error tokens lex apart one text d e (breaks_a_rule t short a refused) (no_text g ts it brief lexes other also) = absurd (refused-text tokens one text t ts g a lexes other also)
+one-error tokens lex apart one text d e (breaks_a_rule t short a refused) (breaks_a_rule u brief b also) =
+    let same : Some d ≡ Some e = sym refused ∙ ap (λ (x : Tree). first_refusal (walked [] x)) (one-tree tokens one text t u a b) ∙ also in
+    some-same d e same

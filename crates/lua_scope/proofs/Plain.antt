@@ -3,33 +3,33 @@ use Rattle.std.proofs.Common.{◌≡◌, ℕ, ◌+◌, Bool, true, false, if◌t
 use Rattle.lua_ast.specs.Tree.{Tree, Block, Local, Assign, CallStat, Do, While, Repeat, If, NumFor, GenFor, LocalFunction, Return, Break, Goto, Label, Const, Vararg, Function, Name, Index, Call, Method, Binary, Logic, Unary, Paren, Table, Missing, Trees, none, snoc, Cases, no_case, case, Maybe, absent, present, Fields, no_field, item, named, keyed}
 use Rattle.std.specs.List.{list_any}
 use Rattle.lua_ast.specs.Numbers.{without_numbers, list_without, cases_without, maybe_without, fields_without}
-use Rattle.lua_scope.specs.declared.event.Event.{Event}
-use Rattle.lua_scope.specs.declared.event.Event.TheVariants as event
-use Rattle.lua_scope.specs.declared.event.Opening.{Opening}
-use Rattle.lua_scope.specs.declared.event.Opening.TheVariants as opening
-use Rattle.lua_scope.specs.declared.event.Label.{Label as BlockLabel}
+use Rattle.lua_scope.specs.declared.occurrence.Occurrence.{Occurrence}
+use Rattle.lua_scope.specs.declared.occurrence.Occurrence.TheVariants as occurrence
+use Rattle.lua_scope.specs.declared.occurrence.ScopeKind.{ScopeKind}
+use Rattle.lua_scope.specs.declared.occurrence.ScopeKind.TheVariants as kind
+use Rattle.lua_scope.specs.declared.occurrence.Label.{Label as BlockLabel}
 use Rattle.lua_scope.specs.Labels.{labels_of, with_labels, locals_of, locals_at, inside_of, inside_with, is_label, has_name}
-use Rattle.lua_scope.specs.History.{opens, label_in, history, list_history, stats_history, body_history, cases_history, maybe_history, fields_history}
+use Rattle.lua_scope.specs.Walk.{opens, label_in, walked, list_walked, stats_walked, body_walked, cases_walked, maybe_walked, fields_walked}
 
 pub ap-both : {A B C : Type 0} (f : A → B → C) {a x : A} {b y : B} → a ≡ x → b ≡ y → f a b ≡ f x y
 ap-both {B = B} f {x = x} {b = b} d e = ap (λ z. f z b) d ∙ ap (f x) e
 
--- An event without the number of its node.
-abbrev pub plain_opening : Opening → Opening
-plain_opening (opening.Block labels inside) = opening.Block labels inside
-plain_opening opening.Loop = opening.Loop
-plain_opening (opening.Function _ vararg) = opening.Function 0 vararg
+-- An occurrence without the number of its node.
+abbrev pub plain_kind : ScopeKind → ScopeKind
+plain_kind (kind.Block labels inside) = kind.Block labels inside
+plain_kind kind.Loop = kind.Loop
+plain_kind (kind.Function _ vararg) = kind.Function 0 vararg
 
-abbrev pub plain : Event → Event
-plain (event.Open o) = event.Open (plain_opening o)
-plain event.Close = event.Close
-plain (event.Declare _ count) = event.Declare 0 count
-plain (event.Enter _ names) = event.Enter 0 names
-plain (event.Use _ x) = event.Use 0 x
-plain (event.Goto l x) = event.Goto l x
-plain (event.SecondLabel l) = event.SecondLabel l
-plain (event.Break l) = event.Break l
-plain (event.Vararg l) = event.Vararg l
+abbrev pub plain : Occurrence → Occurrence
+plain (occurrence.Open o) = occurrence.Open (plain_kind o)
+plain occurrence.Close = occurrence.Close
+plain (occurrence.Declare _ count) = occurrence.Declare 0 count
+plain (occurrence.Enter _ names) = occurrence.Enter 0 names
+plain (occurrence.Use _ x) = occurrence.Use 0 x
+plain (occurrence.Goto l x) = occurrence.Goto l x
+plain (occurrence.SecondLabel l) = occurrence.SecondLabel l
+plain (occurrence.Break l) = occurrence.Break l
+plain (occurrence.Vararg l) = occurrence.Vararg l
 
 -- ---- labels
 
@@ -138,27 +138,27 @@ same-inside none = refl
 same-inside (snoc ts t) = ap-both (λ (a b : ℕ). inside_with a b (without_numbers t)) (same-inside ts) (ap length (same-labels ts)) ∙ same-inside-with (inside_of ts) (length (labels_of ts)) t
 
 same-opens : (repeats : Bool) (ts : Trees) → opens repeats (list_without ts) ≡ plain (opens repeats ts)
-same-opens true ts = ap (λ (ls : List BlockLabel). event.Open (opening.Block ls (length ls))) (same-labels ts)
-same-opens false ts = ap-both (λ (ls : List BlockLabel) (n : ℕ). event.Open (opening.Block ls n)) (same-labels ts) (same-inside ts)
+same-opens true ts = ap (λ (ls : List BlockLabel). occurrence.Open (kind.Block ls (length ls))) (same-labels ts)
+same-opens false ts = ap-both (λ (ls : List BlockLabel) (n : ℕ). occurrence.Open (kind.Block ls n)) (same-labels ts) (same-inside ts)
 
--- ---- histories
+-- ---- walks
 
-abbrev pub Alike : List Event → List Event → Type 0
+abbrev pub Alike : List Occurrence → List Occurrence → Type 0
 Alike g h = g ≡ map plain h
 
-one-more : (a b : Event) (g h : List Event) → a ≡ plain b → g ≡ map plain h → a ∷ g ≡ map plain (b ∷ h)
-one-more a b g h e f = ap-both (λ (x : Event) (xs : List Event). x ∷ xs) e f
+one-more : (a b : Occurrence) (g h : List Occurrence) → a ≡ plain b → g ≡ map plain h → a ∷ g ≡ map plain (b ∷ h)
+one-more a b g h e f = ap-both (λ (x : Occurrence) (xs : List Occurrence). x ∷ xs) e f
 
-second : (l : ℕ) (b : Bool) (g h : List Event) → g ≡ map plain h → Alike (if b then event.SecondLabel l ∷ g else g) (if b then event.SecondLabel l ∷ h else h)
-second l true g h e = one-more (event.SecondLabel l) (event.SecondLabel l) g h refl e
+second : (l : ℕ) (b : Bool) (g h : List Occurrence) → g ≡ map plain h → Alike (if b then occurrence.SecondLabel l ∷ g else g) (if b then occurrence.SecondLabel l ∷ h else h)
+second l true g h e = one-more (occurrence.SecondLabel l) (occurrence.SecondLabel l) g h refl e
 second l false g h e = e
 
-same-label-in : (l : ℕ) (x : List ℕ) (ts : Trees) (g h : List Event) → Alike g h → Alike (label_in l x (list_without ts) g) (label_in l x ts h)
-same-label-in l x ts g h e = ap (λ (ls : List BlockLabel). if list_any (has_name x) ls then event.SecondLabel l ∷ g else g) (same-labels ts) ∙ second l (is_label x ts) g h e
+same-label-in : (l : ℕ) (x : List ℕ) (ts : Trees) (g h : List Occurrence) → Alike g h → Alike (label_in l x (list_without ts) g) (label_in l x ts h)
+same-label-in l x ts g h e = ap (λ (ls : List BlockLabel). if list_any (has_name x) ls then occurrence.SecondLabel l ∷ g else g) (same-labels ts) ∙ second l (is_label x ts) g h e
 
--- a statement, given that its tree keeps histories alike
-statement : (t : Tree) (ts : Trees) (g h : List Event) → ((a b : List Event) → Alike a b → Alike (history a (without_numbers t)) (history b t)) → Alike (stats_history g (list_without ts)) (stats_history h ts) → Alike (stats_history g (snoc (list_without ts) (without_numbers t))) (stats_history h (snoc ts t))
-unfolding history
+-- a statement, given that its tree keeps walks alike
+statement : (t : Tree) (ts : Trees) (g h : List Occurrence) → ((a b : List Occurrence) → Alike a b → Alike (walked a (without_numbers t)) (walked b t)) → Alike (stats_walked g (list_without ts)) (stats_walked h ts) → Alike (stats_walked g (snoc (list_without ts) (without_numbers t))) (stats_walked h (snoc ts t))
+unfolding walked
 statement (Block i l stats) ts g h whole e = whole _ _ e
 statement (Local i l names exps) ts g h whole e = whole _ _ e
 statement (Assign i l targets exps) ts g h whole e = whole _ _ e
@@ -189,40 +189,40 @@ statement (Table i l fields) ts g h whole e = whole _ _ e
 statement Missing ts g h whole e = whole _ _ e
 
 mutual
-  unfolding history
+  unfolding walked
 
-  pub alike : (t : Tree) (g h : List Event) → Alike g h → Alike (history g (without_numbers t)) (history h t)
-  alike (Block i l stats) g h e = one-more event.Close event.Close _ _ refl (alike-stats stats _ _ (one-more (opens false (list_without stats)) (opens false stats) _ _ (same-opens false stats) e))
-  alike (Local i l names exps) g h e = one-more (event.Enter 0 names) (event.Enter i names) _ _ refl (alike-list exps _ _ (one-more (event.Declare 0 (length names)) (event.Declare i (length names)) _ _ refl e))
+  pub alike : (t : Tree) (g h : List Occurrence) → Alike g h → Alike (walked g (without_numbers t)) (walked h t)
+  alike (Block i l stats) g h e = one-more occurrence.Close occurrence.Close _ _ refl (alike-stats stats _ _ (one-more (opens false (list_without stats)) (opens false stats) _ _ (same-opens false stats) e))
+  alike (Local i l names exps) g h e = one-more (occurrence.Enter 0 names) (occurrence.Enter i names) _ _ refl (alike-list exps _ _ (one-more (occurrence.Declare 0 (length names)) (occurrence.Declare i (length names)) _ _ refl e))
   alike (Assign i l targets exps) g h e = alike-list exps _ _ (alike-list targets g h e)
   alike (CallStat i l call) g h e = alike call g h e
   alike (Do i l block) g h e = alike block g h e
   alike (While i l test block) g h e =
-      let before : Alike (history g (without_numbers test)) (history h test) = alike test g h e in
-      one-more event.Close event.Close _ _ refl (alike block (event.Open opening.Loop ∷ history g (without_numbers test)) (event.Open opening.Loop ∷ history h test) (one-more (event.Open opening.Loop) (event.Open opening.Loop) _ _ refl before))
+      let before : Alike (walked g (without_numbers test)) (walked h test) = alike test g h e in
+      one-more occurrence.Close occurrence.Close _ _ refl (alike block (occurrence.Open kind.Loop ∷ walked g (without_numbers test)) (occurrence.Open kind.Loop ∷ walked h test) (one-more (occurrence.Open kind.Loop) (occurrence.Open kind.Loop) _ _ refl before))
   alike (Repeat i l block test) g h e =
-      let a = alike-body true block (event.Open opening.Loop ∷ g) (event.Open opening.Loop ∷ h) (one-more (event.Open opening.Loop) (event.Open opening.Loop) g h refl e) in
-      one-more event.Close event.Close _ (event.Close ∷ history (body_history true (event.Open opening.Loop ∷ h) block) test) refl (one-more event.Close event.Close _ (history (body_history true (event.Open opening.Loop ∷ h) block) test) refl (alike test _ (body_history true (event.Open opening.Loop ∷ h) block) a))
+      let a = alike-body true block (occurrence.Open kind.Loop ∷ g) (occurrence.Open kind.Loop ∷ h) (one-more (occurrence.Open kind.Loop) (occurrence.Open kind.Loop) g h refl e) in
+      one-more occurrence.Close occurrence.Close _ (occurrence.Close ∷ walked (body_walked true (occurrence.Open kind.Loop ∷ h) block) test) refl (one-more occurrence.Close occurrence.Close _ (walked (body_walked true (occurrence.Open kind.Loop ∷ h) block) test) refl (alike test _ (body_walked true (occurrence.Open kind.Loop ∷ h) block) a))
   alike (If i l cases otherwise) g h e = alike-maybe otherwise _ _ (alike-cases cases g h e)
   alike (NumFor i l name first limit step block) g h e =
-      let a : Alike (history (event.Declare 0 1 ∷ g) (without_numbers first)) (history (event.Declare i 1 ∷ h) first) = alike first (event.Declare 0 1 ∷ g) (event.Declare i 1 ∷ h) (one-more (event.Declare 0 1) (event.Declare i 1) g h refl e) in
-      let b = alike limit _ (history (event.Declare i 1 ∷ h) first) a in
-      let c = alike-maybe step _ (history (history (event.Declare i 1 ∷ h) first) limit) b in
-      one-more event.Close event.Close _ _ refl (alike block _ (event.Enter i (name ∷ []) ∷ event.Open opening.Loop ∷ maybe_history (history (history (event.Declare i 1 ∷ h) first) limit) step) (one-more (event.Enter 0 (name ∷ [])) (event.Enter i (name ∷ [])) _ (event.Open opening.Loop ∷ maybe_history (history (history (event.Declare i 1 ∷ h) first) limit) step) refl (one-more (event.Open opening.Loop) (event.Open opening.Loop) _ (maybe_history (history (history (event.Declare i 1 ∷ h) first) limit) step) refl c)))
+      let a : Alike (walked (occurrence.Declare 0 1 ∷ g) (without_numbers first)) (walked (occurrence.Declare i 1 ∷ h) first) = alike first (occurrence.Declare 0 1 ∷ g) (occurrence.Declare i 1 ∷ h) (one-more (occurrence.Declare 0 1) (occurrence.Declare i 1) g h refl e) in
+      let b = alike limit _ (walked (occurrence.Declare i 1 ∷ h) first) a in
+      let c = alike-maybe step _ (walked (walked (occurrence.Declare i 1 ∷ h) first) limit) b in
+      one-more occurrence.Close occurrence.Close _ _ refl (alike block _ (occurrence.Enter i (name ∷ []) ∷ occurrence.Open kind.Loop ∷ maybe_walked (walked (walked (occurrence.Declare i 1 ∷ h) first) limit) step) (one-more (occurrence.Enter 0 (name ∷ [])) (occurrence.Enter i (name ∷ [])) _ (occurrence.Open kind.Loop ∷ maybe_walked (walked (walked (occurrence.Declare i 1 ∷ h) first) limit) step) refl (one-more (occurrence.Open kind.Loop) (occurrence.Open kind.Loop) _ (maybe_walked (walked (walked (occurrence.Declare i 1 ∷ h) first) limit) step) refl c)))
   alike (GenFor i l names exps block) g h e =
-      let a = alike-list exps (event.Declare 0 (length names) ∷ g) (event.Declare i (length names) ∷ h) (one-more (event.Declare 0 (length names)) (event.Declare i (length names)) g h refl e) in
-      one-more event.Close event.Close _ _ refl (alike block _ (event.Enter i names ∷ event.Open opening.Loop ∷ list_history (event.Declare i (length names) ∷ h) exps) (one-more (event.Enter 0 names) (event.Enter i names) _ (event.Open opening.Loop ∷ list_history (event.Declare i (length names) ∷ h) exps) refl (one-more (event.Open opening.Loop) (event.Open opening.Loop) _ (list_history (event.Declare i (length names) ∷ h) exps) refl a)))
-  alike (LocalFunction i l name function) g h e = alike function (event.Enter 0 (name ∷ []) ∷ event.Declare 0 1 ∷ g) (event.Enter i (name ∷ []) ∷ event.Declare i 1 ∷ h) (one-more (event.Enter 0 (name ∷ [])) (event.Enter i (name ∷ [])) (event.Declare 0 1 ∷ g) (event.Declare i 1 ∷ h) refl (one-more (event.Declare 0 1) (event.Declare i 1) g h refl e))
+      let a = alike-list exps (occurrence.Declare 0 (length names) ∷ g) (occurrence.Declare i (length names) ∷ h) (one-more (occurrence.Declare 0 (length names)) (occurrence.Declare i (length names)) g h refl e) in
+      one-more occurrence.Close occurrence.Close _ _ refl (alike block _ (occurrence.Enter i names ∷ occurrence.Open kind.Loop ∷ list_walked (occurrence.Declare i (length names) ∷ h) exps) (one-more (occurrence.Enter 0 names) (occurrence.Enter i names) _ (occurrence.Open kind.Loop ∷ list_walked (occurrence.Declare i (length names) ∷ h) exps) refl (one-more (occurrence.Open kind.Loop) (occurrence.Open kind.Loop) _ (list_walked (occurrence.Declare i (length names) ∷ h) exps) refl a)))
+  alike (LocalFunction i l name function) g h e = alike function (occurrence.Enter 0 (name ∷ []) ∷ occurrence.Declare 0 1 ∷ g) (occurrence.Enter i (name ∷ []) ∷ occurrence.Declare i 1 ∷ h) (one-more (occurrence.Enter 0 (name ∷ [])) (occurrence.Enter i (name ∷ [])) (occurrence.Declare 0 1 ∷ g) (occurrence.Declare i 1 ∷ h) refl (one-more (occurrence.Declare 0 1) (occurrence.Declare i 1) g h refl e))
   alike (Return i l exps) g h e = alike-list exps g h e
-  alike (Break i l) g h e = one-more (event.Break l) (event.Break l) _ _ refl e
-  alike (Goto i l label) g h e = one-more (event.Goto l label) (event.Goto l label) _ _ refl e
+  alike (Break i l) g h e = one-more (occurrence.Break l) (occurrence.Break l) _ _ refl e
+  alike (Goto i l label) g h e = one-more (occurrence.Goto l label) (occurrence.Goto l label) _ _ refl e
   alike (Label i l label) g h e = e
   alike (Const i l value) g h e = e
-  alike (Vararg i l) g h e = one-more (event.Vararg l) (event.Vararg l) _ _ refl e
+  alike (Vararg i l) g h e = one-more (occurrence.Vararg l) (occurrence.Vararg l) _ _ refl e
   alike (Function i l params vararg block) g h e =
-      let a : event.Declare 0 (length params) ∷ event.Open (opening.Function 0 vararg) ∷ g ≡ map plain (event.Declare i (length params) ∷ event.Open (opening.Function i vararg) ∷ h) = one-more (event.Declare 0 (length params)) (event.Declare i (length params)) (event.Open (opening.Function 0 vararg) ∷ g) (event.Open (opening.Function i vararg) ∷ h) refl (one-more (event.Open (opening.Function 0 vararg)) (event.Open (opening.Function i vararg)) g h refl e) in
-      one-more event.Close event.Close _ _ refl (alike block (event.Enter 0 params ∷ event.Declare 0 (length params) ∷ event.Open (opening.Function 0 vararg) ∷ g) (event.Enter i params ∷ event.Declare i (length params) ∷ event.Open (opening.Function i vararg) ∷ h) (one-more (event.Enter 0 params) (event.Enter i params) (event.Declare 0 (length params) ∷ event.Open (opening.Function 0 vararg) ∷ g) (event.Declare i (length params) ∷ event.Open (opening.Function i vararg) ∷ h) refl a))
-  alike (Name i l text) g h e = one-more (event.Use 0 text) (event.Use i text) _ _ refl e
+      let a : occurrence.Declare 0 (length params) ∷ occurrence.Open (kind.Function 0 vararg) ∷ g ≡ map plain (occurrence.Declare i (length params) ∷ occurrence.Open (kind.Function i vararg) ∷ h) = one-more (occurrence.Declare 0 (length params)) (occurrence.Declare i (length params)) (occurrence.Open (kind.Function 0 vararg) ∷ g) (occurrence.Open (kind.Function i vararg) ∷ h) refl (one-more (occurrence.Open (kind.Function 0 vararg)) (occurrence.Open (kind.Function i vararg)) g h refl e) in
+      one-more occurrence.Close occurrence.Close _ _ refl (alike block (occurrence.Enter 0 params ∷ occurrence.Declare 0 (length params) ∷ occurrence.Open (kind.Function 0 vararg) ∷ g) (occurrence.Enter i params ∷ occurrence.Declare i (length params) ∷ occurrence.Open (kind.Function i vararg) ∷ h) (one-more (occurrence.Enter 0 params) (occurrence.Enter i params) (occurrence.Declare 0 (length params) ∷ occurrence.Open (kind.Function 0 vararg) ∷ g) (occurrence.Declare i (length params) ∷ occurrence.Open (kind.Function i vararg) ∷ h) refl a))
+  alike (Name i l text) g h e = one-more (occurrence.Use 0 text) (occurrence.Use i text) _ _ refl e
   alike (Index i l object key) g h e = alike key _ _ (alike object g h e)
   alike (Call i l function args) g h e = alike-list args _ _ (alike function g h e)
   alike (Method i l object name args) g h e = alike-list args _ _ (alike object g h e)
@@ -233,15 +233,15 @@ mutual
   alike (Table i l fields) g h e = alike-fields fields g h e
   alike Missing g h e = e
 
-  alike-list : (ts : Trees) (g h : List Event) → Alike g h → Alike (list_history g (list_without ts)) (list_history h ts)
+  alike-list : (ts : Trees) (g h : List Occurrence) → Alike g h → Alike (list_walked g (list_without ts)) (list_walked h ts)
   alike-list none g h e = e
   alike-list (snoc ts t) g h e = alike t _ _ (alike-list ts g h e)
 
-  alike-stats : (ts : Trees) (g h : List Event) → Alike g h → Alike (stats_history g (list_without ts)) (stats_history h ts)
+  alike-stats : (ts : Trees) (g h : List Occurrence) → Alike g h → Alike (stats_walked g (list_without ts)) (stats_walked h ts)
   alike-stats none g h e = e
   alike-stats (snoc ts t) g h e = statement t ts g h (λ a b f. alike t a b f) (alike-stats ts g h e)
 
-  alike-body : (repeats : Bool) (t : Tree) (g h : List Event) → Alike g h → Alike (body_history repeats g (without_numbers t)) (body_history repeats h t)
+  alike-body : (repeats : Bool) (t : Tree) (g h : List Occurrence) → Alike g h → Alike (body_walked repeats g (without_numbers t)) (body_walked repeats h t)
   alike-body repeats (Block i l stats) g h e = alike-stats stats _ _ (one-more (opens repeats (list_without stats)) (opens repeats stats) _ _ (same-opens repeats stats) e)
   alike-body repeats (Local i l names exps) g h e = one-more (opens repeats none) (opens repeats none) _ _ (same-opens repeats none) e
   alike-body repeats (Assign i l targets exps) g h e = one-more (opens repeats none) (opens repeats none) _ _ (same-opens repeats none) e
@@ -271,15 +271,15 @@ mutual
   alike-body repeats (Table i l fields) g h e = one-more (opens repeats none) (opens repeats none) _ _ (same-opens repeats none) e
   alike-body repeats Missing g h e = one-more (opens repeats none) (opens repeats none) _ _ (same-opens repeats none) e
 
-  alike-cases : (cs : Cases) (g h : List Event) → Alike g h → Alike (cases_history g (cases_without cs)) (cases_history h cs)
+  alike-cases : (cs : Cases) (g h : List Occurrence) → Alike g h → Alike (cases_walked g (cases_without cs)) (cases_walked h cs)
   alike-cases no_case g h e = e
   alike-cases (case cs test block) g h e = alike block _ _ (alike test _ _ (alike-cases cs g h e))
 
-  alike-maybe : (m : Maybe) (g h : List Event) → Alike g h → Alike (maybe_history g (maybe_without m)) (maybe_history h m)
+  alike-maybe : (m : Maybe) (g h : List Occurrence) → Alike g h → Alike (maybe_walked g (maybe_without m)) (maybe_walked h m)
   alike-maybe absent g h e = e
   alike-maybe (present t) g h e = alike t g h e
 
-  alike-fields : (fs : Fields) (g h : List Event) → Alike g h → Alike (fields_history g (fields_without fs)) (fields_history h fs)
+  alike-fields : (fs : Fields) (g h : List Occurrence) → Alike g h → Alike (fields_walked g (fields_without fs)) (fields_walked h fs)
   alike-fields no_field g h e = e
   alike-fields (item fs value) g h e = alike value _ _ (alike-fields fs g h e)
   alike-fields (named fs name value) g h e = alike value _ _ (alike-fields fs g h e)

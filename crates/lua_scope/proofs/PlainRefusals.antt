@@ -1,22 +1,22 @@
--- Without the numbers of its nodes a history is refused in the same way.
+-- Without the numbers of its nodes a walk is refused in the same way.
 use Rattle.std.proofs.Common.{◌≡◌, ℕ, zero, suc, ◌+◌, ◌-◌, Bool, if◌then◌else◌, subst, arith, List, [], ◌∷◌, ◌++◌, length, map, reverse, take, Option, Some, None, refl, sym, ap, ◌∙◌, slice_get, option_map}
 use Rattle.lua_ast.specs.Tree.{Tree}
 use Rattle.lua_ast.specs.Numbers.{without_numbers}
-use Rattle.lua_scope.specs.declared.event.Event.{Event}
-use Rattle.lua_scope.specs.declared.event.Event.TheVariants as event
-use Rattle.lua_scope.specs.declared.event.Opening.{Opening}
-use Rattle.lua_scope.specs.declared.event.Opening.TheVariants as opening
+use Rattle.lua_scope.specs.declared.occurrence.Occurrence.{Occurrence}
+use Rattle.lua_scope.specs.declared.occurrence.Occurrence.TheVariants as occurrence
+use Rattle.lua_scope.specs.declared.occurrence.ScopeKind.{ScopeKind}
+use Rattle.lua_scope.specs.declared.occurrence.ScopeKind.TheVariants as kind
 use Rattle.lua_scope.specs.declared.frame.Frame.{Frame}
-use Rattle.lua_scope.specs.declared.refusal.Refusal.{Refusal}
-use Rattle.lua_scope.specs.declared.refusal.Refusal.TheVariants.{BreakOutside, VarargOutside}
+use Rattle.lua_scope.specs.declared.load_error.LoadError.{LoadError}
+use Rattle.lua_scope.specs.declared.load_error.LoadError.TheVariants.{BreakOutside, VarargOutside}
 use Rattle.std.proofs.lemmas.List.{reverse-append}
-use Rattle.lua_scope.specs.History.{history}
+use Rattle.lua_scope.specs.Walk.{walked}
 use Rattle.lua_scope.specs.Scope.{ScopeState, scope, opened, closed, cut_to, entered, numbered, first_variable}
 use Rattle.lua_scope.specs.Refusals.{first_refusal, refusal_in, jump_in, jump, in_loop_of, in_loop, has_varargs_of, has_varargs, earlier}
-use Rattle.lua_scope.proofs.Plain.{ap-both, plain, plain_opening, alike}
+use Rattle.lua_scope.proofs.Plain.{ap-both, plain, plain_kind, alike}
 
 abbrev plain_frame : Frame → Frame
-plain_frame f = record { opening = plain_opening f.opening; begins = f.begins }
+plain_frame f = record { kind = plain_kind f.kind; begins = f.begins }
 
 -- Two states that differ in the numbers of nodes and variables alone.
 record SameState (a b : ScopeState) : Type 0 where
@@ -56,10 +56,10 @@ length-take (suc n) [] (y ∷ ys) e = cc
 length-take (suc n) (x ∷ xs) [] e = cc
 length-take (suc n) (x ∷ xs) (y ∷ ys) e = let f : length xs ≡ length ys = omega arith in ap suc (length-take n xs ys f)
 
-same-opened : (o : Opening) (a b : ScopeState) → SameState a b → SameState (opened (plain_opening o) a) (opened o b)
+same-opened : (o : ScopeKind) (a b : ScopeState) → SameState a b → SameState (opened (plain_kind o) a) (opened o b)
 same-opened o a b s = record {
   variables = s.variables;
-  frames = ap-both (λ (fs : List Frame) (n : ℕ). fs ++ record { opening = plain_opening o; begins = n } ∷ []) s.frames s.variables ∙ sym (map-append plain_frame b.frames (record { opening = o; begins = length b.variables } ∷ []));
+  frames = ap-both (λ (fs : List Frame) (n : ℕ). fs ++ record { kind = plain_kind o; begins = n } ∷ []) s.frames s.variables ∙ sym (map-append plain_frame b.frames (record { kind = o; begins = length b.variables } ∷ []));
 }
 
 same-cut : (f : Option Frame) (a b : ScopeState) → SameState a b → SameState (cut_to (option_map plain_frame f) a) (cut_to f b)
@@ -81,47 +81,47 @@ same-entered m n names a b s = record {
   frames = s.frames;
 }
 
-same-scope : (h : List Event) → SameState (scope (map plain h)) (scope h)
+same-scope : (h : List Occurrence) → SameState (scope (map plain h)) (scope h)
 unfolding scope
 same-scope [] = record { variables = refl; frames = refl }
-same-scope (event.Open o ∷ h) = same-opened o _ _ (same-scope h)
-same-scope (event.Close ∷ h) = same-closed _ _ (same-scope h)
-same-scope (event.Declare i n ∷ h) = same-scope h
-same-scope (event.Enter i names ∷ h) = same-entered (first_variable (map plain h) 0) (first_variable h i) names _ _ (same-scope h)
-same-scope (event.Use i x ∷ h) = same-scope h
-same-scope (event.Goto l x ∷ h) = same-scope h
-same-scope (event.SecondLabel l ∷ h) = same-scope h
-same-scope (event.Break l ∷ h) = same-scope h
-same-scope (event.Vararg l ∷ h) = same-scope h
+same-scope (occurrence.Open o ∷ h) = same-opened o _ _ (same-scope h)
+same-scope (occurrence.Close ∷ h) = same-closed _ _ (same-scope h)
+same-scope (occurrence.Declare i n ∷ h) = same-scope h
+same-scope (occurrence.Enter i names ∷ h) = same-entered (first_variable (map plain h) 0) (first_variable h i) names _ _ (same-scope h)
+same-scope (occurrence.Use i x ∷ h) = same-scope h
+same-scope (occurrence.Goto l x ∷ h) = same-scope h
+same-scope (occurrence.SecondLabel l ∷ h) = same-scope h
+same-scope (occurrence.Break l ∷ h) = same-scope h
+same-scope (occurrence.Vararg l ∷ h) = same-scope h
 
 -- ---- refusals
 
-jump-one : (l : ℕ) (x : List ℕ) (there : ℕ) (o : Opening) (a b : Option Refusal) → a ≡ b → jump_in l x there (plain_opening o) a ≡ jump_in l x there o b
-jump-one l x there (opening.Block labels inside) a b e = ap (jump_in l x there (opening.Block labels inside)) e
-jump-one l x there opening.Loop a b e = e
-jump-one l x there (opening.Function i vararg) a b e = refl
+jump-one : (l : ℕ) (x : List ℕ) (there : ℕ) (o : ScopeKind) (a b : Option LoadError) → a ≡ b → jump_in l x there (plain_kind o) a ≡ jump_in l x there o b
+jump-one l x there (kind.Block labels inside) a b e = ap (jump_in l x there (kind.Block labels inside)) e
+jump-one l x there kind.Loop a b e = e
+jump-one l x there (kind.Function i vararg) a b e = refl
 
 same-jump : (l : ℕ) (x : List ℕ) (here : ℕ) (fs : List Frame) → jump l x here (map plain_frame fs) ≡ jump l x here fs
 same-jump l x here [] = refl
-same-jump l x here (f ∷ fs) = jump-one l x (here - f.begins) f.opening _ _ (same-jump l x f.begins fs)
+same-jump l x here (f ∷ fs) = jump-one l x (here - f.begins) f.kind _ _ (same-jump l x f.begins fs)
 
-loop-one : (o : Opening) (a b : Bool) → a ≡ b → in_loop_of (plain_opening o) a ≡ in_loop_of o b
-loop-one (opening.Block labels inside) a b e = e
-loop-one opening.Loop a b e = refl
-loop-one (opening.Function i vararg) a b e = refl
+loop-one : (o : ScopeKind) (a b : Bool) → a ≡ b → in_loop_of (plain_kind o) a ≡ in_loop_of o b
+loop-one (kind.Block labels inside) a b e = e
+loop-one kind.Loop a b e = refl
+loop-one (kind.Function i vararg) a b e = refl
 
 same-loop : (fs : List Frame) → in_loop (map plain_frame fs) ≡ in_loop fs
 same-loop [] = refl
-same-loop (f ∷ fs) = loop-one f.opening _ _ (same-loop fs)
+same-loop (f ∷ fs) = loop-one f.kind _ _ (same-loop fs)
 
-varargs-one : (o : Opening) (a b : Bool) → a ≡ b → has_varargs_of (plain_opening o) a ≡ has_varargs_of o b
-varargs-one (opening.Block labels inside) a b e = e
-varargs-one opening.Loop a b e = e
-varargs-one (opening.Function i vararg) a b e = refl
+varargs-one : (o : ScopeKind) (a b : Bool) → a ≡ b → has_varargs_of (plain_kind o) a ≡ has_varargs_of o b
+varargs-one (kind.Block labels inside) a b e = e
+varargs-one kind.Loop a b e = e
+varargs-one (kind.Function i vararg) a b e = refl
 
 same-varargs : (fs : List Frame) → has_varargs (map plain_frame fs) ≡ has_varargs fs
 same-varargs [] = refl
-same-varargs (f ∷ fs) = varargs-one f.opening _ _ (same-varargs fs)
+same-varargs (f ∷ fs) = varargs-one f.kind _ _ (same-varargs fs)
 
 reverse-one : {X : Type 0} (x : X) (xs : List X) → reverse (x ∷ xs) ≡ reverse xs ++ x ∷ []
 reverse-one x xs = reverse-append (x ∷ []) xs
@@ -133,22 +133,22 @@ map-reverse {Y = Y} f (x ∷ xs) = reverse-one (f x) (map f xs) ∙ ap (λ (ys :
 backwards : (a b : ScopeState) → SameState a b → reverse a.frames ≡ map plain_frame (reverse b.frames)
 backwards a b s = ap reverse s.frames ∙ map-reverse plain_frame b.frames
 
-same-refusal : (a b : ScopeState) (e : Event) → SameState a b → refusal_in a (plain e) ≡ refusal_in b e
-same-refusal a b (event.Open o) s = refl
-same-refusal a b event.Close s = refl
-same-refusal a b (event.Declare i n) s = refl
-same-refusal a b (event.Enter i names) s = refl
-same-refusal a b (event.Use i x) s = refl
-same-refusal a b (event.Goto l x) s = ap-both (λ (n : ℕ) (fs : List Frame). jump l x n fs) s.variables (backwards a b s) ∙ same-jump l x (length b.variables) (reverse b.frames)
-same-refusal a b (event.SecondLabel l) s = refl
-same-refusal a b (event.Break l) s = ap (λ (c : Bool). if c then None else Some (BreakOutside l)) (ap in_loop (backwards a b s) ∙ same-loop (reverse b.frames))
-same-refusal a b (event.Vararg l) s = ap (λ (c : Bool). if c then None else Some (VarargOutside l)) (ap has_varargs (backwards a b s) ∙ same-varargs (reverse b.frames))
+same-refusal : (a b : ScopeState) (e : Occurrence) → SameState a b → refusal_in a (plain e) ≡ refusal_in b e
+same-refusal a b (occurrence.Open o) s = refl
+same-refusal a b occurrence.Close s = refl
+same-refusal a b (occurrence.Declare i n) s = refl
+same-refusal a b (occurrence.Enter i names) s = refl
+same-refusal a b (occurrence.Use i x) s = refl
+same-refusal a b (occurrence.Goto l x) s = ap-both (λ (n : ℕ) (fs : List Frame). jump l x n fs) s.variables (backwards a b s) ∙ same-jump l x (length b.variables) (reverse b.frames)
+same-refusal a b (occurrence.SecondLabel l) s = refl
+same-refusal a b (occurrence.Break l) s = ap (λ (c : Bool). if c then None else Some (BreakOutside l)) (ap in_loop (backwards a b s) ∙ same-loop (reverse b.frames))
+same-refusal a b (occurrence.Vararg l) s = ap (λ (c : Bool). if c then None else Some (VarargOutside l)) (ap has_varargs (backwards a b s) ∙ same-varargs (reverse b.frames))
 
-same-first : (h : List Event) → first_refusal (map plain h) ≡ first_refusal h
+same-first : (h : List Occurrence) → first_refusal (map plain h) ≡ first_refusal h
 unfolding first_refusal
 same-first [] = refl
-same-first (e ∷ h) = ap-both (λ (r t : Option Refusal). earlier r t) (same-first h) (same-refusal (scope (map plain h)) (scope h) e (same-scope h))
+same-first (e ∷ h) = ap-both (λ (r t : Option LoadError). earlier r t) (same-first h) (same-refusal (scope (map plain h)) (scope h) e (same-scope h))
 
 -- A text is refused by its tree, with whatever numbers.
-pub numbers_refuse_nothing : (t : Tree) → first_refusal (history [] (without_numbers t)) ≡ first_refusal (history [] t)
-numbers_refuse_nothing t = ap first_refusal (alike t [] [] refl) ∙ same-first (history [] t)
+pub numbers_refuse_nothing : (t : Tree) → first_refusal (walked [] (without_numbers t)) ≡ first_refusal (walked [] t)
+numbers_refuse_nothing t = ap first_refusal (alike t [] [] refl) ∙ same-first (walked [] t)

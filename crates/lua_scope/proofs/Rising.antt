@@ -4,8 +4,8 @@ use Rattle.std.specs.List.{list_any, prefix_len}
 use Rattle.std.specs.List.Sorted.{IsStrictlyIncreasing}
 use Rattle.std.proofs.Common.{ap, ◌∙◌, sym, subst, arith}
 use Rattle.std.proofs.lemmas.Bool.Decides.{nat_tests, Decides-ltb}
-use Rattle.lua_scope.specs.declared.event.Event.{Event}
-use Rattle.lua_scope.specs.declared.event.Event.TheVariants as event
+use Rattle.lua_scope.specs.declared.occurrence.Occurrence.{Occurrence}
+use Rattle.lua_scope.specs.declared.occurrence.Occurrence.TheVariants as occurrence
 use Rattle.lua_scope.specs.declared.frame.Frame.{Frame}
 use Rattle.lua_scope.specs.Scope.{scope, first_variable}
 use Rattle.lua_scope.specs.Variables.{meaning, captures, is_function, place_in, with_number, with_use, with_meaning, captured_by}
@@ -76,24 +76,24 @@ choice_rises v ws false r = r
 with_use_rises : (first : ℕ → ℕ) (f v : ℕ) (ws : List ℕ) (frames : List Frame) → Rises ws → Rises (with_use first f v ws frames)
 with_use_rises first f v ws [] r = r
 with_use_rises first f v ws (frame ∷ frames) r =
-    with_use_rises first f v (if is_function f frame.opening && captures first v frame.opening then with_number v ws else ws) frames (choice_rises v ws (is_function f frame.opening && captures first v frame.opening) r)
+    with_use_rises first f v (if is_function f frame.kind && captures first v frame.kind then with_number v ws else ws) frames (choice_rises v ws (is_function f frame.kind && captures first v frame.kind) r)
 
 with_meaning_rises : (first : ℕ → ℕ) (f : ℕ) (o : Option ℕ) (ws : List ℕ) (frames : List Frame) → Rises ws → Rises (with_meaning first f o ws frames)
 with_meaning_rises first f None ws frames r = r
 with_meaning_rises first f (Some v) ws frames r = with_use_rises first f v ws frames r
 
-captured_rises : (h : List Event) (f : ℕ) → Rises (captured_by h f)
+captured_rises : (h : List Occurrence) (f : ℕ) → Rises (captured_by h f)
 unfolding captured_by
 captured_rises [] f = tt
-captured_rises (event.Use i x ∷ h) f = with_meaning_rises (first_variable h) f (meaning h x) (captured_by h f) (scope h).frames (captured_rises h f)
-captured_rises (event.Open o ∷ h) f = captured_rises h f
-captured_rises (event.Close ∷ h) f = captured_rises h f
-captured_rises (event.Declare i count ∷ h) f = captured_rises h f
-captured_rises (event.Enter i names ∷ h) f = captured_rises h f
-captured_rises (event.Goto l x ∷ h) f = captured_rises h f
-captured_rises (event.SecondLabel l ∷ h) f = captured_rises h f
-captured_rises (event.Break l ∷ h) f = captured_rises h f
-captured_rises (event.Vararg l ∷ h) f = captured_rises h f
+captured_rises (occurrence.Use i x ∷ h) f = with_meaning_rises (first_variable h) f (meaning h x) (captured_by h f) (scope h).frames (captured_rises h f)
+captured_rises (occurrence.Open o ∷ h) f = captured_rises h f
+captured_rises (occurrence.Close ∷ h) f = captured_rises h f
+captured_rises (occurrence.Declare i count ∷ h) f = captured_rises h f
+captured_rises (occurrence.Enter i names ∷ h) f = captured_rises h f
+captured_rises (occurrence.Goto l x ∷ h) f = captured_rises h f
+captured_rises (occurrence.SecondLabel l ∷ h) f = captured_rises h f
+captured_rises (occurrence.Break l ∷ h) f = captured_rises h f
+captured_rises (occurrence.Vararg l ∷ h) f = captured_rises h f
 
 increasing_from : (x : ℕ) (xs : List ℕ) → RisesFrom x xs → IsStrictlyIncreasing (x ∷ xs)
 increasing_from x [] r k h = absurd (omega arith)
@@ -106,5 +106,5 @@ increasing : (xs : List ℕ) → Rises xs → IsStrictlyIncreasing xs
 increasing [] r = λ k h. absurd (omega arith)
 increasing (x ∷ xs) r = increasing_from x xs r
 
-pub captured_increasing : (h : List Event) (f : ℕ) → IsStrictlyIncreasing (captured_by h f)
+pub captured_increasing : (h : List Occurrence) (f : ℕ) → IsStrictlyIncreasing (captured_by h f)
 captured_increasing h f = increasing (captured_by h f) (captured_rises h f)

@@ -2,16 +2,16 @@
 use Rattle.std.specs.Prelude.{◌≡◌, ℕ, ◌+◌, ◌<◌, List, ◌++◌}
 use Rattle.std.proofs.Common.{ap, ◌∙◌, sym, subst, arith}
 use Rattle.lua_ast.specs.Tree.{Tree}
-use Rattle.lua_scope.specs.declared.event.Event.{Event}
+use Rattle.lua_scope.specs.declared.occurrence.Occurrence.{Occurrence}
 use Rattle.lua_scope.specs.declared.task.Task.{Task}
 use Rattle.lua_scope.specs.Tasks.{walk, walks}
 use Rattle.lua_scope.specs.Walking.{weight, weights, TasksBelow}
 use Rattle.lua_scope.proofs.NodeWalks.{walks_append, weights_append, below_append}
 
-pub stepped : (part : ℕ → Tree) (h : List Event) (task wanted : Task) (tasks old new : List Task) → task ≡ wanted → new ≡ tasks ++ old
+pub stepped : (part : ℕ → Tree) (h : List Occurrence) (task wanted : Task) (tasks old new : List Task) → task ≡ wanted → new ≡ tasks ++ old
     → walks part h tasks ≡ walk part h wanted → walks part h new ≡ walks part (walk part h task) old
 stepped part h task wanted tasks old new is e same =
-    ap (walks part h) e ∙ (walks_append part h tasks old ∙ ap (λ (g : List Event). walks part g old) (same ∙ ap (walk part h) (sym is)))
+    ap (walks part h) e ∙ (walks_append part h tasks old ∙ ap (λ (g : List Occurrence). walks part g old) (same ∙ ap (walk part h) (sym is)))
 
 pub lighter : (part : ℕ → Tree) (task wanted : Task) (tasks old new : List Task) → task ≡ wanted → new ≡ tasks ++ old
     → weights part tasks < weight part wanted → weights part new < weight part task + weights part old

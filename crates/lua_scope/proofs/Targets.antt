@@ -6,7 +6,7 @@ use Rattle.std.specs.Option.{option_or}
 use Rattle.std.specs.List.{list_any}
 use Rattle.std.specs.BTreeMap.{BTreeMap}
 use Rattle.std.specs.Cmp.Lexicographic.{bytes_decides}
-use Rattle.lua_scope.specs.declared.event.Label.{Label}
+use Rattle.lua_scope.specs.declared.occurrence.Label.{Label}
 use Rattle.lua_scope.specs.declared.labels.FirstLabel.{FirstLabel}
 use Rattle.lua_scope.specs.Labels.{has_name}
 use Rattle.lua_scope.specs.Refusals.{target}
@@ -70,9 +70,7 @@ module _ {Z : Type 0} (ls : List Label) (m new : BTreeMap (Vec ℕ Z) FirstLabel
       → HasFirstLabels (ls ++ record { name = name; locals = locals } ∷ []) new
   pushed_next name locals has noted =
       let l : Label = record { name = name; locals = locals }
-      in record {
-        first_is = λ x. noted x ∙ (ap (λ (o : Option FirstLabel). option_or o (cond (bytes_eq name x) (Some (record { place = length ls; locals = locals })) None)) (has.first_is x) ∙ sym (first_pushed x ls l));
-      }
+      in λ x. noted x ∙ (ap (λ (o : Option FirstLabel). option_or o (cond (bytes_eq name x) (Some (record { place = length ls; locals = locals })) None)) (has x) ∙ sym (first_pushed x ls l))
 
 -- a label is noted where the table had none of its name
 pub noted_new : {X : Type 0} (b : Bool) (old : Option X) (w : X) → (b ≡ true → old ≡ None) → cond b (Some w) old ≡ option_or old (cond b (Some w) None)

@@ -2,7 +2,7 @@
 use Rattle.std.specs.Prelude.{ℕ, ◌+◌, Bool, List, [], ◌∷◌, ◌++◌, length, bytes_eq}
 use Rattle.std.specs.List.{list_any}
 use Rattle.lua_ast.specs.Tree.{Tree, Label, Local, LocalFunction, Trees, none, snoc}
-use Rattle.lua_scope.specs.declared.event.Label.{Label as BlockLabel}
+use Rattle.lua_scope.specs.declared.occurrence.Label.{Label as BlockLabel}
 
 -- how many locals a statement leaves in scope behind it
 abbrev pub locals_at : Tree → ℕ

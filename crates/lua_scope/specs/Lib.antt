@@ -1,13 +1,13 @@
 pub mod Labels
-pub mod History
+pub mod Walk
 pub mod Tasks
 pub mod Walking
 pub mod Scanned
 pub mod ByName
 pub mod FirstLabels
-pub mod Visible
 pub mod Scope
 pub mod Variables
+pub mod Visible
 pub mod Meets
 pub mod Uses
 pub mod Refusals

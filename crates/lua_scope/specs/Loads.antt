@@ -10,13 +10,9 @@ use Rattle.lua_grammar.specs.Parses.{Parses}
 use Rattle.lua_parser.specs.declared.parse_error.ParseError.{ParseError}
 use Rattle.lua_parser.specs.declared.parse_error.ParseError.TheVariants as parse_error
 use Rattle.lua_parser.specs.Parsing.{IsRefusal}
-use Rattle.lua_scope.specs.declared.refusal.Refusal.{Refusal}
-use Rattle.lua_scope.specs.declared.refusal.Refusal.TheVariants as refusal
-use Rattle.lua_scope.specs.declared.refusal.ScopeError.{ScopeError}
-use Rattle.lua_scope.specs.declared.refusal.ScopeError.TheVariants as scope
 use Rattle.lua_scope.specs.declared.load_error.LoadError.{LoadError}
 use Rattle.lua_scope.specs.declared.load_error.LoadError.TheVariants as error
-use Rattle.lua_scope.specs.History.{history}
+use Rattle.lua_scope.specs.Walk.{walked}
 use Rattle.lua_scope.specs.Refusals.{first_refusal}
 
 -- The greatest number of bytes of a text.
@@ -33,17 +29,10 @@ pub record HasTokensOf (text : List ℕ) (t : Tree) : Type 0 where
 pub record LoadsAs (text : List ℕ) (t : Tree) : Type 0 where
   pub short : length text ≤ most_text
   pub is_text : HasTokensOf text t
-  pub clear : first_refusal (history [] t) ≡ None
+  pub clear : first_refusal (walked [] t) ≡ None
 
 abbrev pub Loads : List ℕ → Type 0
 Loads text = (t : Tree) × LoadsAs text t
-
-abbrev pub scope_error : Refusal → LoadError
-scope_error (refusal.NoLabel line) = error.NoLabel line
-scope_error (refusal.TwoLabels line) = error.TwoLabels line
-scope_error (refusal.JumpsIntoLocal line) = error.JumpsIntoLocal line
-scope_error (refusal.BreakOutside line) = error.BreakOutside line
-scope_error (refusal.VarargOutside line) = error.VarargOutside line
 
 -- The refusals of the layers below, as those of a text.
 abbrev pub of_lex : LexError → LoadError
@@ -54,16 +43,12 @@ abbrev pub of_parse : ParseError → LoadError
 of_parse parse_error.NoMemory = error.NoMemory
 of_parse e = error.Parse e
 
-abbrev pub of_scope : ScopeError → LoadError
-of_scope scope.NoMemory = error.NoMemory
-of_scope (scope.Refused r) = scope_error r
-
 -- The text does not load, and this is its first refusal.
 pub data LoadFails (text : List ℕ) (e : LoadError) : Type 0 where
   too_long : e ≡ error.TextTooLong (length text) → most_text < length text → LoadFails text e
   no_tokens : (f : LexError) → e ≡ error.Lex f → length text ≤ most_text → LexFails text f → LoadFails text e
   no_text : (f : ParseError) (ts : List Token) → e ≡ error.Parse f → length text ≤ most_text → Lexes text ts → f ≢ parse_error.NoMemory → IsRefusal text ts f → LoadFails text e
-  breaks_a_rule : (r : Refusal) (t : Tree) → e ≡ scope_error r → length text ≤ most_text → HasTokensOf text t → first_refusal (history [] t) ≡ Some r → LoadFails text e
+  breaks_a_rule : (t : Tree) → length text ≤ most_text → HasTokensOf text t → first_refusal (walked [] t) ≡ Some e → LoadFails text e
 
 -- The error is the first refusal of the text, or memory was wanting, of which nothing is said.
 abbrev pub IsLoadFailure : List ℕ → LoadError → Type 0

@@ -5,22 +5,22 @@ use Rattle.lua_ast.specs.declared.node.Node.TheVariants as node
 use Rattle.lua_ast.specs.declared.node.Field.{Field}
 use Rattle.lua_ast.specs.declared.node.Field.TheVariants as field
 use Rattle.lua_ast.specs.Tree.{Tree}
-use Rattle.lua_scope.specs.declared.event.Event.{Event}
-use Rattle.lua_scope.specs.declared.event.Event.TheVariants as event
-use Rattle.lua_scope.specs.declared.event.Opening.TheVariants as opening
+use Rattle.lua_scope.specs.declared.occurrence.Occurrence.{Occurrence}
+use Rattle.lua_scope.specs.declared.occurrence.Occurrence.TheVariants as occurrence
+use Rattle.lua_scope.specs.declared.occurrence.ScopeKind.TheVariants as kind
 use Rattle.lua_scope.specs.declared.task.Task.{Task}
 use Rattle.lua_scope.specs.declared.task.Task.TheVariants.{Visit, Body, Emit}
-use Rattle.lua_scope.specs.History.{history, body_history}
+use Rattle.lua_scope.specs.Walk.{walked, body_walked}
 
--- the history with a task done; `part` gives the tree of a node
-abbrev pub walk : (ℕ → Tree) → List Event → Task → List Event
-walk part h (Visit i) = history h (part i)
-walk part h (Body i repeats) = body_history repeats h (part i)
-walk part h (Emit e) = e ∷ h
+-- what has been met, with a task done; `part` gives the tree of a node
+abbrev pub walk : (ℕ → Tree) → List Occurrence → Task → List Occurrence
+walk part seen (Visit i) = walked seen (part i)
+walk part seen (Body i repeats) = body_walked repeats seen (part i)
+walk part seen (Emit e) = e ∷ seen
 
-abbrev pub walks : (ℕ → Tree) → List Event → List Task → List Event
-walks part h [] = h
-walks part h (t ∷ ts) = walks part (walk part h t) ts
+abbrev pub walks : (ℕ → Tree) → List Occurrence → List Task → List Occurrence
+walks part seen [] = seen
+walks part seen (t ∷ ts) = walks part (walk part seen t) ts
 
 abbrev pub visits : List ℕ → List Task
 visits [] = []
@@ -41,35 +41,48 @@ field_tasks (field.Item v ∷ fs) = Visit v ∷ field_tasks fs
 field_tasks (field.Named _ v ∷ fs) = Visit v ∷ field_tasks fs
 field_tasks (field.Keyed k v ∷ fs) = Visit k ∷ Visit v ∷ field_tasks fs
 
+-- the tasks of a loop
+abbrev pub loop_tasks : (number : ℕ) → Node → Option (List Task)
+loop_tasks i (node.While test block) = Some (Visit test ∷ Emit (occurrence.Open kind.Loop) ∷ Visit block ∷ Emit occurrence.Close ∷ [])
+loop_tasks i (node.Repeat block test) = Some (Emit (occurrence.Open kind.Loop) ∷ Body block true ∷ Visit test ∷ Emit occurrence.Close ∷ Emit occurrence.Close ∷ [])
+loop_tasks i (node.NumFor name first limit step block) =
+    Some (Emit (occurrence.Declare i 1) ∷ Visit first ∷ Visit limit ∷ (maybe_task step ++ Emit (occurrence.Open kind.Loop) ∷ Emit (occurrence.Enter i (name ∷ [])) ∷ Visit block ∷ Emit occurrence.Close ∷ []))
+loop_tasks i (node.GenFor names exps block) =
+    Some (Emit (occurrence.Declare i (length names)) ∷ (visits exps ++ Emit (occurrence.Open kind.Loop) ∷ Emit (occurrence.Enter i names) ∷ Visit block ∷ Emit occurrence.Close ∷ []))
+loop_tasks i _ = None
+
+-- the tasks of a node that is no loop: labels and literals have none
+abbrev pub other_tasks : (number line : ℕ) → Node → List Task
+other_tasks i l (node.Block stats) = Body i false ∷ Emit occurrence.Close ∷ []
+other_tasks i l (node.Local names exps) = Emit (occurrence.Declare i (length names)) ∷ (visits exps ++ Emit (occurrence.Enter i names) ∷ [])
+other_tasks i l (node.Assign targets exps) = visits targets ++ visits exps
+other_tasks i l (node.CallStat call) = Visit call ∷ []
+other_tasks i l (node.Do block) = Visit block ∷ []
+other_tasks i l (node.If tests blocks otherwise) = case_tasks tests blocks ++ maybe_task otherwise
+other_tasks i l (node.LocalFunction name function) = Emit (occurrence.Declare i 1) ∷ Emit (occurrence.Enter i (name ∷ [])) ∷ Visit function ∷ []
+other_tasks i l (node.Return exps) = visits exps
+other_tasks i l node.Break = Emit (occurrence.Break l) ∷ []
+other_tasks i l (node.Goto label) = Emit (occurrence.Goto l label) ∷ []
+other_tasks i l (node.Label label) = []
+other_tasks i l (node.Const value) = []
+other_tasks i l node.Vararg = Emit (occurrence.Vararg l) ∷ []
+other_tasks i l (node.Function params vararg block) =
+    Emit (occurrence.Open (kind.Function i vararg)) ∷ Emit (occurrence.Declare i (length params)) ∷ Emit (occurrence.Enter i params) ∷ Visit block ∷ Emit occurrence.Close ∷ []
+other_tasks i l (node.Name text) = Emit (occurrence.Use i text) ∷ []
+other_tasks i l (node.Index object key) = Visit object ∷ Visit key ∷ []
+other_tasks i l (node.Call function args) = Visit function ∷ visits args
+other_tasks i l (node.Method object name args) = Visit object ∷ visits args
+other_tasks i l (node.Binary op left right) = Visit left ∷ Visit right ∷ []
+other_tasks i l (node.Logic op left right) = Visit left ∷ Visit right ∷ []
+other_tasks i l (node.Unary op operand) = Visit operand ∷ []
+other_tasks i l (node.Paren inner) = Visit inner ∷ []
+other_tasks i l (node.Table fields) = field_tasks fields
+other_tasks i l _ = []
+
+abbrev pub tasks_or : Option (List Task) → List Task → List Task
+tasks_or (Some ts) others = ts
+tasks_or None others = others
+
 -- the tasks of a node
 abbrev pub tasks_of : (number line : ℕ) → Node → List Task
-tasks_of i l (node.Block stats) = Body i false ∷ Emit event.Close ∷ []
-tasks_of i l (node.Local names exps) = Emit (event.Declare i (length names)) ∷ (visits exps ++ Emit (event.Enter i names) ∷ [])
-tasks_of i l (node.Assign targets exps) = visits targets ++ visits exps
-tasks_of i l (node.CallStat call) = Visit call ∷ []
-tasks_of i l (node.Do block) = Visit block ∷ []
-tasks_of i l (node.While test block) = Visit test ∷ Emit (event.Open opening.Loop) ∷ Visit block ∷ Emit event.Close ∷ []
-tasks_of i l (node.Repeat block test) = Emit (event.Open opening.Loop) ∷ Body block true ∷ Visit test ∷ Emit event.Close ∷ Emit event.Close ∷ []
-tasks_of i l (node.If tests blocks otherwise) = case_tasks tests blocks ++ maybe_task otherwise
-tasks_of i l (node.NumFor name first limit step block) =
-    Emit (event.Declare i 1) ∷ Visit first ∷ Visit limit ∷ (maybe_task step ++ Emit (event.Open opening.Loop) ∷ Emit (event.Enter i (name ∷ [])) ∷ Visit block ∷ Emit event.Close ∷ [])
-tasks_of i l (node.GenFor names exps block) =
-    Emit (event.Declare i (length names)) ∷ (visits exps ++ Emit (event.Open opening.Loop) ∷ Emit (event.Enter i names) ∷ Visit block ∷ Emit event.Close ∷ [])
-tasks_of i l (node.LocalFunction name function) = Emit (event.Declare i 1) ∷ Emit (event.Enter i (name ∷ [])) ∷ Visit function ∷ []
-tasks_of i l (node.Return exps) = visits exps
-tasks_of i l node.Break = Emit (event.Break l) ∷ []
-tasks_of i l (node.Goto label) = Emit (event.Goto l label) ∷ []
-tasks_of i l (node.Label label) = []
-tasks_of i l (node.Const value) = []
-tasks_of i l node.Vararg = Emit (event.Vararg l) ∷ []
-tasks_of i l (node.Function params vararg block) =
-    Emit (event.Open (opening.Function i vararg)) ∷ Emit (event.Declare i (length params)) ∷ Emit (event.Enter i params) ∷ Visit block ∷ Emit event.Close ∷ []
-tasks_of i l (node.Name text) = Emit (event.Use i text) ∷ []
-tasks_of i l (node.Index object key) = Visit object ∷ Visit key ∷ []
-tasks_of i l (node.Call function args) = Visit function ∷ visits args
-tasks_of i l (node.Method object name args) = Visit object ∷ visits args
-tasks_of i l (node.Binary op left right) = Visit left ∷ Visit right ∷ []
-tasks_of i l (node.Logic op left right) = Visit left ∷ Visit right ∷ []
-tasks_of i l (node.Unary op operand) = Visit operand ∷ []
-tasks_of i l (node.Paren inner) = Visit inner ∷ []
-tasks_of i l (node.Table fields) = field_tasks fields
+tasks_of i l x = tasks_or (loop_tasks i x) (other_tasks i l x)

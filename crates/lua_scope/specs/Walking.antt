@@ -1,10 +1,10 @@
 -- How much of a walk is still to be done.
 use Rattle.std.specs.Prelude.{ℕ, ◌+◌, ◌<◌, List, [], ◌∷◌}
 use Rattle.lua_ast.specs.Tree.{Tree, Block, Local, Assign, CallStat, Do, While, Repeat, If, NumFor, GenFor, LocalFunction, Return, Break, Goto, Label, Const, Vararg, Function, Name, Index, Call, Method, Binary, Logic, Unary, Paren, Table, Missing, Trees, none, snoc, Cases, no_case, case, Maybe, absent, present, Fields, no_field, item, named, keyed}
-use Rattle.lua_scope.specs.declared.event.Event.{Event}
-use Rattle.lua_scope.specs.declared.event.Event.TheVariants as event
-use Rattle.lua_scope.specs.declared.event.Opening.{Opening}
-use Rattle.lua_scope.specs.declared.event.Opening.TheVariants as opening
+use Rattle.lua_scope.specs.declared.occurrence.Occurrence.{Occurrence}
+use Rattle.lua_scope.specs.declared.occurrence.Occurrence.TheVariants as occurrence
+use Rattle.lua_scope.specs.declared.occurrence.ScopeKind.{ScopeKind}
+use Rattle.lua_scope.specs.declared.occurrence.ScopeKind.TheVariants as kind
 use Rattle.lua_scope.specs.declared.task.Task.{Task}
 use Rattle.lua_scope.specs.declared.task.Task.TheVariants.{Visit, Body, Emit}
 
@@ -71,27 +71,27 @@ abbrev pub weights : (ℕ → Tree) → List Task → ℕ
 weights part [] = 0
 weights part (t ∷ ts) = weight part t + weights part ts
 
--- the nodes of these events and tasks stand below n
-abbrev pub OpeningBelow : ℕ → Opening → Type 0
-OpeningBelow n (opening.Block _ _) = Unit {0}
-OpeningBelow n opening.Loop = Unit {0}
-OpeningBelow n (opening.Function i _) = i < n
+-- the nodes of these occurrences and tasks stand below n
+abbrev pub KindBelow : ℕ → ScopeKind → Type 0
+KindBelow n (kind.Block _ _) = Unit {0}
+KindBelow n kind.Loop = Unit {0}
+KindBelow n (kind.Function i _) = i < n
 
-abbrev pub EventBelow : ℕ → Event → Type 0
-EventBelow n (event.Open o) = OpeningBelow n o
-EventBelow n event.Close = Unit {0}
-EventBelow n (event.Declare i _) = i < n
-EventBelow n (event.Enter i _) = i < n
-EventBelow n (event.Use i _) = i < n
-EventBelow n (event.Goto _ _) = Unit {0}
-EventBelow n (event.SecondLabel _) = Unit {0}
-EventBelow n (event.Break _) = Unit {0}
-EventBelow n (event.Vararg _) = Unit {0}
+abbrev pub OccurrenceBelow : ℕ → Occurrence → Type 0
+OccurrenceBelow n (occurrence.Open o) = KindBelow n o
+OccurrenceBelow n occurrence.Close = Unit {0}
+OccurrenceBelow n (occurrence.Declare i _) = i < n
+OccurrenceBelow n (occurrence.Enter i _) = i < n
+OccurrenceBelow n (occurrence.Use i _) = i < n
+OccurrenceBelow n (occurrence.Goto _ _) = Unit {0}
+OccurrenceBelow n (occurrence.SecondLabel _) = Unit {0}
+OccurrenceBelow n (occurrence.Break _) = Unit {0}
+OccurrenceBelow n (occurrence.Vararg _) = Unit {0}
 
 abbrev pub TaskBelow : ℕ → Task → Type 0
 TaskBelow n (Visit i) = i < n
 TaskBelow n (Body i _) = i < n
-TaskBelow n (Emit e) = EventBelow n e
+TaskBelow n (Emit e) = OccurrenceBelow n e
 
 abbrev pub TasksBelow : ℕ → List Task → Type 0
 TasksBelow n [] = Unit {0}

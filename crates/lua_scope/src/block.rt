@@ -4,17 +4,17 @@ ghost use Rattle.std.specs.Prelude.{◌≡◌, ◌<◌, ◌+◌, ◌∷◌, ◌+
 ghost use Rattle.std.specs.List.{list_any};
 ghost use Rattle.lua_ast.specs.Tree.{Trees, snoc};
 ghost use Rattle.lua_ast.specs.Decode.{tree, own_number};
-ghost use Rattle.lua_scope.specs.declared.event.Event.{Event as EventOf};
+ghost use Rattle.lua_scope.specs.declared.occurrence.Occurrence.{Occurrence as OccurrenceOf};
 ghost use Rattle.lua_scope.specs.Labels.{has_name};
-ghost use Rattle.lua_scope.specs.History.{body_history};
+ghost use Rattle.lua_scope.specs.Walk.{body_walked};
 ghost use Rattle.lua_scope.specs.Tasks.{walks};
 ghost use Rattle.lua_scope.specs.Walking.{weights, body_size, TasksBelow};
 ghost use Rattle.lua_scope.specs.Scanned.{locals_in, label_name, block_stats, stats_in, Scanned};
 ghost use Rattle.lua_scope.specs.declared.task.Task.TheVariants as task;
-ghost use Rattle.lua_scope.specs.declared.event.Event.TheVariants as event;
+ghost use Rattle.lua_scope.specs.declared.occurrence.Occurrence.TheVariants as occurrence;
 
-use crate::event::{Event, Opening};
 use crate::labels::BlockLabels;
+use crate::occurrence::{Occurrence, ScopeKind};
 use crate::task::{Task, Tasks};
 use lua_ast::{AstText, Chunk, Ids, Node, NodeId};
 use std::alloc::{AllocError, Global};
@@ -73,13 +73,13 @@ impl Statements {
         ensures locals { IfOk result (λ _. self.new.locals ≡ self.old.locals) }
         ensures tasks { IfOk result (λ _. self.new.tasks
             ≡ (if list_any (has_name label.now) self.old.labels
-            then self.old.tasks ++ task.Emit (event.SecondLabel line) ∷ []
+            then self.old.tasks ++ task.Emit (occurrence.SecondLabel line) ∷ []
             else self.old.tasks)) }
     {
         let second = self.labels.contains(label);
         self.labels.push(alloc, label, self.locals)?;
         if second {
-            self.tasks.emit(Event::SecondLabel { line })?;
+            self.tasks.emit(Occurrence::SecondLabel { line })?;
         }
         Ok(())
     }
@@ -168,9 +168,9 @@ pub(crate) fn body_tasks(
     repeats: bool,
 ) -> Result<Vec<Task>, AllocError>
     requires { id < length chunk.now.nodes }
-    ensures walk { IfOk result (λ tasks. (h : List EventOf) →
-        walks (tree own_number chunk.now.nodes) h tasks.items
-        ≡ body_history repeats h (tree own_number chunk.now.nodes id)) }
+    ensures walk { IfOk result (λ tasks. (seen : List OccurrenceOf) →
+        walks (tree own_number chunk.now.nodes) seen tasks.items
+        ≡ body_walked repeats seen (tree own_number chunk.now.nodes id)) }
     ensures less { IfOk result (λ tasks. weights (tree own_number chunk.now.nodes) tasks.items
         < body_size (tree own_number chunk.now.nodes id)) }
     ensures below { IfOk result (λ tasks. TasksBelow (length chunk.now.nodes) tasks.items) }
@@ -178,8 +178,8 @@ pub(crate) fn body_tasks(
     let all = read_statements(alloc, chunk, id)?;
     let inside = all.labels_inside(repeats);
     let Statements { labels, tasks, .. } = all;
-    let opening = Opening::Block { labels, inside };
+    let kind = ScopeKind::Block { labels, inside };
     let mut all = tasks.into_vec();
-    all.insert(0, Task::Emit(Event::Open { opening }))?;
+    all.insert(0, Task::Emit(Occurrence::Open { kind }))?;
     Ok(all)
 }

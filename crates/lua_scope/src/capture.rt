@@ -3,25 +3,25 @@
 ghost use Rattle.std.specs.Prelude.{◌≡◌, ◌<◌, [], ℕ, length, IfOk, IfSome, slice_index_or, is_some, ◌==◌, ◌&&◌, if◌then◌else◌};
 ghost use Rattle.lua_scope.specs.Variables.{captures, captured_in, is_function, with_number, with_use};
 
-use crate::event::Opening;
 use crate::frame::Frame;
 use crate::numbers::Numbers;
+use crate::occurrence::ScopeKind;
 use lua_ast::NodeId;
 use std::alloc::AllocError;
 
 /// The function that a frame is, if it captures the variable. `first` has for each node the number
 /// of its first variable.
 fn capturing(frame: &Frame, first: &[u32], variable: u32) -> Option<NodeId>
-    ensures captures { captures (λ (i : ℕ). slice_index_or first.now i 0) variable frame.now.opening ≡ is_some result }
-    ensures function { IfSome result (λ node. (f : ℕ) → is_function f frame.now.opening ≡ (node == f)) }
+    ensures captures { captures (λ (i : ℕ). slice_index_or first.now i 0) variable frame.now.kind ≡ is_some result }
+    ensures function { IfSome result (λ node. (f : ℕ) → is_function f frame.now.kind ≡ (node == f)) }
 {
-    match &frame.opening {
-        Opening::Function { node, .. } => {
+    match &frame.kind {
+        ScopeKind::Function { node, .. } => {
             let own = first.get(node.index()).copied().unwrap_or(0);
             (variable < own).then_some(*node)
         }
-        Opening::Block { .. } => None,
-        Opening::Loop => None,
+        ScopeKind::Block { .. } => None,
+        ScopeKind::Loop => None,
     }
 }
 
@@ -33,12 +33,12 @@ fn capture_in(
     captured: &mut Vec<Numbers>,
 ) -> Result<bool, AllocError>
     ensures any { IfOk result (λ any.
-        any ≡ captures (λ (i : ℕ). slice_index_or first.now i 0) variable frame.now.opening) }
+        any ≡ captures (λ (i : ℕ). slice_index_or first.now i 0) variable frame.now.kind) }
     ensures len { length captured.new.items ≡ length captured.old.items }
     ensures each { IfOk result (λ _. (f : ℕ) → f < length captured.old.items →
         slice_index_or captured.new.items f []
-        ≡ (if is_function f frame.now.opening
-        && captures (λ (i : ℕ). slice_index_or first.now i 0) variable frame.now.opening
+        ≡ (if is_function f frame.now.kind
+        && captures (λ (i : ℕ). slice_index_or first.now i 0) variable frame.now.kind
         then with_number variable (slice_index_or captured.old.items f [])
         else slice_index_or captured.old.items f [])) }
 {
@@ -51,7 +51,7 @@ fn capture_in(
     Ok(true)
 }
 
-/// Puts a variable that is used into what the functions around capture. Tells whether one of them
+/// Puts a variable that is used into what the functions around capture. VariablesAre whether one of them
 /// captures it.
 pub(crate) fn capture(
     frames: &[Frame],

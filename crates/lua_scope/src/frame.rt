@@ -1,6 +1,6 @@
-//! A variable in scope, and something that is open.
+//! A variable in scope, and a scope that is open.
 
-use crate::event::Opening;
+use crate::occurrence::ScopeKind;
 use lua_ast::AstText;
 
 /// A variable in scope.
@@ -19,10 +19,10 @@ pub(crate) struct Entered {
     pub hidden: Option<u32>,
 }
 
-/// Something that is open.
+/// A scope that is open.
 #[derive(Debug, Drop)]
 pub(crate) struct Frame {
-    pub opening: Opening,
+    pub kind: ScopeKind,
     /// How many variables were in scope where it opened.
     pub begins: usize,
 }

@@ -7,7 +7,7 @@ ghost use Rattle.lua_scope.specs.ByName.{at_name};
 ghost use Rattle.lua_scope.specs.Labels.{has_name};
 ghost use Rattle.lua_scope.specs.Refusals.{target};
 
-use crate::event::Label;
+use crate::occurrence::Label;
 use crate::task::copy_name;
 use lua_ast::AstText;
 use std::alloc::{AllocError, Global};
@@ -34,7 +34,7 @@ pub(crate) struct BlockLabels {
 
 impl Model for BlockLabels {
     ghost use Rattle.std.specs.Prelude.{List};
-    ghost use Rattle.lua_scope.specs.declared.event.Label.{Label as LabelOf};
+    ghost use Rattle.lua_scope.specs.declared.occurrence.Label.{Label as LabelOf};
     ghost use Rattle.lua_scope.specs.FirstLabels.{HasFirstLabels};
 
     ghost Value = { List LabelOf };

@@ -3,16 +3,16 @@
 ghost use Rattle.std.specs.Prelude.{◌≡◌, Some, ◌⊎◌, ℕ, ◌==◌, true, List, []};
 ghost use Rattle.std.specs.List.{list_any};
 ghost use Rattle.std.specs.List.Sorted.{IsStrictlyIncreasing};
-ghost use Rattle.lua_scope.specs.declared.event.Event.{Event as EventOf};
+ghost use Rattle.lua_scope.specs.declared.occurrence.Occurrence.{Occurrence as OccurrenceOf};
 ghost use Rattle.lua_ast.specs.declared.node.Node.{Node as NodeOf};
 ghost use Rattle.lua_ast.specs.Tree.{Tree};
 ghost use Rattle.lua_ast.specs.Decode.{ChunkNodes, Ordered, node_at};
 ghost use Rattle.lua_ast.specs.Once.{IsEachOnce};
 ghost use Rattle.lua_ast.specs.Numbers.{without_numbers};
 ghost use Rattle.lua_parser.specs.Parsing.{tree_of};
-ghost use Rattle.lua_scope.specs.History.{history};
-ghost use Rattle.lua_scope.specs.OfChunk.{history_of};
-ghost use Rattle.lua_scope.specs.Meets.{Meets, told_of};
+ghost use Rattle.lua_scope.specs.Walk.{walked};
+ghost use Rattle.lua_scope.specs.OfChunk.{occurrences_of};
+ghost use Rattle.lua_scope.specs.Meets.{Meets, occurrence_at};
 ghost use Rattle.lua_scope.specs.Loads.{LoadsAs, Loads, LoadFails};
 ghost use Rattle.lua_scope.specs.Refusals.{first_refusal};
 ghost use Rattle.lua_scope.specs.declared.load_error.LoadError.{LoadError as ErrorOf};
@@ -21,30 +21,30 @@ ghost use Rattle.lua_scope.specs.Uses.{UsesInside};
 
 /// The variables that a function captures are told rising, each once.
 pub fn captured_variables_rise()
-    ensures { (h : List EventOf) (f : ℕ) → IsStrictlyIncreasing (captured_by h f) }
+    ensures { (seen : List OccurrenceOf) (f : ℕ) → IsStrictlyIncreasing (captured_by seen f) }
 {}
 
 /// A function captures a variable exactly where a Name inside the function means the variable and
 /// it was named before the function's own (Lua 5.2 manual, 3.5).
 pub fn captured_where_used()
-    ensures used { (h : List EventOf) (f v : ℕ) → list_any (λ w. w == v) (captured_by h f) ≡ true → UsesInside h f v }
-    ensures all { (h : List EventOf) (f v : ℕ) → UsesInside h f v → list_any (λ w. w == v) (captured_by h f) ≡ true }
-    ensures flagged { (h : List EventOf) (v : ℕ) → is_captured h v ≡ true → (f : ℕ) × UsesInside h f v }
-    ensures flags { (h : List EventOf) (f v : ℕ) → UsesInside h f v → is_captured h v ≡ true }
+    ensures used { (seen : List OccurrenceOf) (f v : ℕ) → list_any (λ w. w == v) (captured_by seen f) ≡ true → UsesInside seen f v }
+    ensures all { (seen : List OccurrenceOf) (f v : ℕ) → UsesInside seen f v → list_any (λ w. w == v) (captured_by seen f) ≡ true }
+    ensures flagged { (seen : List OccurrenceOf) (v : ℕ) → is_captured seen v ≡ true → (f : ℕ) × UsesInside seen f v }
+    ensures flags { (seen : List OccurrenceOf) (f v : ℕ) → UsesInside seen f v → is_captured seen v ≡ true }
 {}
 
 /// The walk through a text meets each Name of its chunk, and each node that names variables.
 /// `Chunk::root` tells that the nodes are in order, `Parsed::chunk` the rest.
 pub fn nodes_are_met()
-    ensures { (text : List ℕ) (c : ChunkNodes) (i : ℕ) (n : NodeOf) (e : EventOf) →
+    ensures { (text : List ℕ) (c : ChunkNodes) (i : ℕ) (n : NodeOf) (e : OccurrenceOf) →
         Ordered c.nodes → LoadsAs text (tree_of c) → IsEachOnce c →
-        node_at c.nodes i ≡ Some n → told_of i n ≡ Some e →
-        (before : List EventOf) × Meets (history_of c) before e }
+        node_at c.nodes i ≡ Some n → occurrence_at i n ≡ Some e →
+        (before : List OccurrenceOf) × Meets (occurrences_of c) before e }
 {}
 
 /// A text is refused by its tree alone: the numbers of the nodes don't matter.
 pub fn numbers_refuse_nothing()
-    ensures { (t : Tree) → first_refusal (history [] (without_numbers t)) ≡ first_refusal (history [] t) }
+    ensures { (t : Tree) → first_refusal (walked [] (without_numbers t)) ≡ first_refusal (walked [] t) }
 {}
 
 /// Every text loads, as one tree, or has one refusal, and never both. A text is any list of numbers here.

@@ -4,31 +4,23 @@
 
 mod block;
 mod capture;
-mod event;
 mod frame;
 mod labels;
 pub mod laws;
 mod load_error;
-#[cfg(test)]
-mod load_tests;
 mod node_tasks;
 mod numbers;
+mod occurrence;
 mod parsed;
 mod place;
-mod refusal;
 mod resolver;
 mod run;
 mod scope;
-mod scoped;
 mod tables;
 mod task;
-#[cfg(test)]
-mod tests;
 mod visible;
 mod walk;
 
 pub use load_error::LoadError;
 pub use parsed::{MOST_TEXT, Parsed, load};
 pub use place::Place;
-pub use refusal::{Refusal, ScopeError};
-pub use scoped::ScopedChunk;

@@ -1,11 +1,11 @@
 //! Why a text does not load.
 
 ghost use Rattle.std.specs.Prelude.{◌≡◌};
-ghost use Rattle.lua_scope.specs.Loads.{scope_error, of_lex, of_parse, of_scope};
+ghost use Rattle.lua_scope.specs.Loads.{of_lex, of_parse};
 
-use crate::refusal::{Refusal, ScopeError};
 use lua_lexer::LexError;
 use lua_parser::ParseError;
+use std::alloc::AllocError;
 
 /// Why a text does not load: its first refusal, in this order.
 #[derive(Clone, Copy, PartialEq, Eq, Debug, Drop)]
@@ -16,18 +16,29 @@ pub enum LoadError {
     Lex(LexError),
     /// Its tokens are no text of the grammar.
     Parse(ParseError),
-    /// The goto on this line finds no label.
+    /// The goto on this line finds no label (Lua 5.2 manual, 3.3.4).
     NoLabel(u32),
-    /// The label on this line is in its block already.
+    /// The label on this line is in its block already (3.3.4).
     TwoLabels(u32),
-    /// The goto on this line jumps into the scope of a local.
+    /// The goto on this line jumps into the scope of a local (3.3.4).
     JumpsIntoLocal(u32),
-    /// The break on this line stands in no loop of its function.
+    /// The break on this line stands in no loop of its function (3.3.4).
     BreakOutside(u32),
-    /// The `...` on this line stand in a function without them.
+    /// The `...` on this line stand in a function without them (3.4.10).
     VarargOutside(u32),
-    /// There was no memory left.
+    /// There was no memory left, or 32 bits can't number the variables.
     NoMemory,
+}
+
+impl From<AllocError> for LoadError {
+    ghost use Rattle.std.specs.Prelude.{◌≡◌};
+    ghost use Rattle.lua_scope.specs.declared.load_error.LoadError.TheVariants as error;
+
+    ghost from_gives = { λ _ e. e ≡ error.NoMemory };
+
+    fn from(_error: AllocError) -> LoadError {
+        LoadError::NoMemory
+    }
 }
 
 /// The refusal of a text without tokens.
@@ -47,28 +58,5 @@ pub(crate) fn of_parse(error: ParseError) -> LoadError
     match error {
         ParseError::NoMemory => LoadError::NoMemory,
         error => LoadError::Parse(error),
-    }
-}
-
-/// The refusal of a text about which the scope rules give no answer.
-pub(crate) fn of_scope(error: ScopeError) -> LoadError
-    ensures { result ≡ of_scope error }
-{
-    match error {
-        ScopeError::NoMemory => LoadError::NoMemory,
-        ScopeError::Refused(refusal) => scope_error(refusal),
-    }
-}
-
-/// The refusal of a text that breaks this scope rule.
-fn scope_error(refusal: Refusal) -> LoadError
-    ensures { result ≡ scope_error refusal }
-{
-    match refusal {
-        Refusal::NoLabel { line } => LoadError::NoLabel(line),
-        Refusal::TwoLabels { line } => LoadError::TwoLabels(line),
-        Refusal::JumpsIntoLocal { line } => LoadError::JumpsIntoLocal(line),
-        Refusal::BreakOutside { line } => LoadError::BreakOutside(line),
-        Refusal::VarargOutside { line } => LoadError::VarargOutside(line),
     }
 }

@@ -2,11 +2,11 @@
 
 ghost use Rattle.std.specs.Prelude.{◌≡◌, ◌∷◌, ◌++◌, [], true, false, length, IfOk};
 ghost use Rattle.lua_scope.specs.declared.task.Task.TheVariants as task;
-ghost use Rattle.lua_scope.specs.declared.event.Event.TheVariants as event;
-ghost use Rattle.lua_scope.specs.declared.event.Opening.TheVariants as opening;
-ghost use Rattle.lua_scope.specs.Tasks.{tasks_of, visits, maybe_task, case_tasks, field_tasks};
+ghost use Rattle.lua_scope.specs.declared.occurrence.Occurrence.TheVariants as occurrence;
+ghost use Rattle.lua_scope.specs.declared.occurrence.ScopeKind.TheVariants as kind;
+ghost use Rattle.lua_scope.specs.Tasks.{tasks_of, loop_tasks, other_tasks, visits, maybe_task, case_tasks, field_tasks};
 
-use crate::event::{Event, Opening};
+use crate::occurrence::{Occurrence, ScopeKind};
 use crate::task::{Task, Tasks, copy_name};
 use lua_ast::{AstText, AstTexts, Fields, Ids, Node, NodeId};
 use std::alloc::{AllocError, Global};
@@ -20,34 +20,53 @@ pub(crate) fn node_tasks(
 ) -> Result<Tasks, AllocError>
     ensures { IfOk result (λ tasks. tasks ≡ tasks_of id line node.now) }
 {
+    match loop_tasks(alloc, id, node)? {
+        Some(tasks) => Ok(tasks),
+        None => other_tasks(alloc, id, line, node),
+    }
+}
+
+/// The tasks of a loop, and nothing for another node.
+fn loop_tasks(alloc: Global, id: NodeId, node: &Node) -> Result<Option<Tasks>, AllocError>
+    ensures { IfOk result (λ tasks. tasks ≡ loop_tasks id node.now) }
+{
     match node {
-        Node::Block { .. } => block_tasks(alloc, id),
-        Node::Local { names, exps } => local_tasks(alloc, id, names, exps),
-        Node::Assign { targets, exps } => assign_tasks(alloc, targets, exps),
-        Node::CallStat { call } => one_node(alloc, *call),
-        Node::Do { block } => one_node(alloc, *block),
-        Node::While { test, block } => while_tasks(alloc, *test, *block),
-        Node::Repeat { block, test } => repeat_tasks(alloc, *block, *test),
-        Node::If {
-            tests,
-            blocks,
-            otherwise,
-        } => if_tasks(alloc, tests, blocks, otherwise),
+        Node::While { test, block } => Ok(Some(while_tasks(alloc, *test, *block)?)),
+        Node::Repeat { block, test } => Ok(Some(repeat_tasks(alloc, *block, *test)?)),
         Node::NumFor {
             name,
             first,
             limit,
             step,
             block,
-        } => num_for_tasks(alloc, id, name, *first, *limit, step, *block),
-        Node::GenFor { names, exps, block } => gen_for_tasks(alloc, id, names, exps, *block),
+        } => Ok(Some(num_for_tasks(alloc, id, name, *first, *limit, step, *block)?)),
+        Node::GenFor { names, exps, block } => {
+            Ok(Some(gen_for_tasks(alloc, id, names, exps, *block)?))
+        }
+        _ => Ok(None),
+    }
+}
+
+/// The tasks of a node that is no loop. Labels and literals have none.
+fn other_tasks(alloc: Global, id: NodeId, line: u32, node: &Node) -> Result<Tasks, AllocError>
+    ensures { IfOk result (λ tasks. tasks ≡ other_tasks id line node.now) }
+{
+    match node {
+        Node::Block { .. } => block_tasks(alloc, id),
+        Node::Local { names, exps } => local_tasks(alloc, id, names, exps),
+        Node::Assign { targets, exps } => assign_tasks(alloc, targets, exps),
+        Node::CallStat { call } => one_node(alloc, *call),
+        Node::Do { block } => one_node(alloc, *block),
+        Node::If {
+            tests,
+            blocks,
+            otherwise,
+        } => if_tasks(alloc, tests, blocks, otherwise),
         Node::LocalFunction { name, function } => local_function_tasks(alloc, id, name, *function),
         Node::Return { exps } => return_tasks(alloc, exps),
-        Node::Break => one_event(alloc, Event::Break { line }),
+        Node::Break => one_occurrence(alloc, Occurrence::Break { line }),
         Node::Goto { label } => goto_tasks(alloc, line, label),
-        Node::Label { .. } => Ok(Tasks::new(alloc)),
-        Node::Const { .. } => Ok(Tasks::new(alloc)),
-        Node::Vararg => one_event(alloc, Event::Vararg { line }),
+        Node::Vararg => one_occurrence(alloc, Occurrence::Vararg { line }),
         Node::Function {
             params,
             vararg,
@@ -62,14 +81,15 @@ pub(crate) fn node_tasks(
         Node::Unary { operand, .. } => one_node(alloc, *operand),
         Node::Paren { inner } => one_node(alloc, *inner),
         Node::Table { fields } => table_tasks(alloc, fields),
+        _ => Ok(Tasks::new(alloc)),
     }
 }
 
-fn one_event(alloc: Global, event: Event) -> Result<Tasks, AllocError>
-    ensures { IfOk result (λ tasks. tasks ≡ task.Emit event ∷ []) }
+fn one_occurrence(alloc: Global, occurrence: Occurrence) -> Result<Tasks, AllocError>
+    ensures { IfOk result (λ tasks. tasks ≡ task.Emit occurrence ∷ []) }
 {
     let mut tasks = Tasks::new(alloc);
-    tasks.emit(event)?;
+    tasks.emit(occurrence)?;
     Ok(tasks)
 }
 
@@ -91,22 +111,22 @@ fn two_nodes(alloc: Global, first: NodeId, second: NodeId) -> Result<Tasks, Allo
 }
 
 fn block_tasks(alloc: Global, id: NodeId) -> Result<Tasks, AllocError>
-    ensures { IfOk result (λ tasks. tasks ≡ task.Body id false ∷ task.Emit event.Close ∷ []) }
+    ensures { IfOk result (λ tasks. tasks ≡ task.Body id false ∷ task.Emit occurrence.Close ∷ []) }
 {
     let mut tasks = Tasks::new(alloc);
     let repeats = false;
     tasks.push(Task::Body { node: id, repeats })?;
-    tasks.emit(Event::Close)?;
+    tasks.emit(Occurrence::Close)?;
     Ok(tasks)
 }
 
 fn local_tasks(alloc: Global, id: NodeId, names: &AstTexts, exps: &Ids) -> Result<Tasks, AllocError>
-    ensures { IfOk result (λ tasks. tasks ≡ task.Emit (event.Declare id (length names.now))
-        ∷ (visits exps.now ++ task.Emit (event.Enter id names.now) ∷ [])) }
+    ensures { IfOk result (λ tasks. tasks ≡ task.Emit (occurrence.Declare id (length names.now))
+        ∷ (visits exps.now ++ task.Emit (occurrence.Enter id names.now) ∷ [])) }
 {
     let mut tasks = Tasks::new(alloc);
     let count = names.len();
-    tasks.emit(Event::Declare { node: id, count })?;
+    tasks.emit(Occurrence::Declare { node: id, count })?;
     tasks.visit_all(exps)?;
     tasks.enter(alloc, id, names)?;
     Ok(tasks)
@@ -118,11 +138,11 @@ fn local_function_tasks(
     name: &AstText,
     function: NodeId,
 ) -> Result<Tasks, AllocError>
-    ensures { IfOk result (λ tasks. tasks ≡ task.Emit (event.Declare id 1)
-        ∷ task.Emit (event.Enter id (name.now ∷ [])) ∷ task.Visit function ∷ []) }
+    ensures { IfOk result (λ tasks. tasks ≡ task.Emit (occurrence.Declare id 1)
+        ∷ task.Emit (occurrence.Enter id (name.now ∷ [])) ∷ task.Visit function ∷ []) }
 {
     let mut tasks = Tasks::new(alloc);
-    tasks.emit(Event::Declare { node: id, count: 1 })?;
+    tasks.emit(Occurrence::Declare { node: id, count: 1 })?;
     tasks.enter_one(alloc, id, name)?;
     tasks.visit(function)?;
     Ok(tasks)
@@ -153,19 +173,19 @@ fn if_tasks(
 
 fn while_tasks(alloc: Global, test: NodeId, block: NodeId) -> Result<Tasks, AllocError>
     ensures { IfOk result (λ tasks. tasks ≡ task.Visit test
-        ∷ task.Emit (event.Open opening.Loop) ∷ task.Visit block ∷ task.Emit event.Close ∷ []) }
+        ∷ task.Emit (occurrence.Open kind.Loop) ∷ task.Visit block ∷ task.Emit occurrence.Close ∷ []) }
 {
     let mut tasks = Tasks::new(alloc);
     tasks.visit(test)?;
     tasks.open_loop()?;
     tasks.visit(block)?;
-    tasks.emit(Event::Close)?;
+    tasks.emit(Occurrence::Close)?;
     Ok(tasks)
 }
 
 fn repeat_tasks(alloc: Global, block: NodeId, test: NodeId) -> Result<Tasks, AllocError>
-    ensures { IfOk result (λ tasks. tasks ≡ task.Emit (event.Open opening.Loop)
-        ∷ task.Body block true ∷ task.Visit test ∷ task.Emit event.Close ∷ task.Emit event.Close ∷ []) }
+    ensures { IfOk result (λ tasks. tasks ≡ task.Emit (occurrence.Open kind.Loop)
+        ∷ task.Body block true ∷ task.Visit test ∷ task.Emit occurrence.Close ∷ task.Emit occurrence.Close ∷ []) }
 {
     let mut tasks = Tasks::new(alloc);
     tasks.open_loop()?;
@@ -175,8 +195,8 @@ fn repeat_tasks(alloc: Global, block: NodeId, test: NodeId) -> Result<Tasks, All
         repeats,
     })?;
     tasks.visit(test)?;
-    tasks.emit(Event::Close)?;
-    tasks.emit(Event::Close)?;
+    tasks.emit(Occurrence::Close)?;
+    tasks.emit(Occurrence::Close)?;
     Ok(tasks)
 }
 
@@ -189,19 +209,19 @@ fn num_for_tasks(
     step: &Option<NodeId>,
     block: NodeId,
 ) -> Result<Tasks, AllocError>
-    ensures { IfOk result (λ tasks. tasks ≡ task.Emit (event.Declare id 1) ∷ task.Visit first ∷ task.Visit limit
-        ∷ (maybe_task step.now ++ task.Emit (event.Open opening.Loop)
-        ∷ task.Emit (event.Enter id (name.now ∷ [])) ∷ task.Visit block ∷ task.Emit event.Close ∷ [])) }
+    ensures { IfOk result (λ tasks. tasks ≡ task.Emit (occurrence.Declare id 1) ∷ task.Visit first ∷ task.Visit limit
+        ∷ (maybe_task step.now ++ task.Emit (occurrence.Open kind.Loop)
+        ∷ task.Emit (occurrence.Enter id (name.now ∷ [])) ∷ task.Visit block ∷ task.Emit occurrence.Close ∷ [])) }
 {
     let mut tasks = Tasks::new(alloc);
-    tasks.emit(Event::Declare { node: id, count: 1 })?;
+    tasks.emit(Occurrence::Declare { node: id, count: 1 })?;
     tasks.visit(first)?;
     tasks.visit(limit)?;
     tasks.visit_any(step)?;
     tasks.open_loop()?;
     tasks.enter_one(alloc, id, name)?;
     tasks.visit(block)?;
-    tasks.emit(Event::Close)?;
+    tasks.emit(Occurrence::Close)?;
     Ok(tasks)
 }
 
@@ -212,18 +232,18 @@ fn gen_for_tasks(
     exps: &Ids,
     block: NodeId,
 ) -> Result<Tasks, AllocError>
-    ensures { IfOk result (λ tasks. tasks ≡ task.Emit (event.Declare id (length names.now))
-        ∷ (visits exps.now ++ task.Emit (event.Open opening.Loop)
-        ∷ task.Emit (event.Enter id names.now) ∷ task.Visit block ∷ task.Emit event.Close ∷ [])) }
+    ensures { IfOk result (λ tasks. tasks ≡ task.Emit (occurrence.Declare id (length names.now))
+        ∷ (visits exps.now ++ task.Emit (occurrence.Open kind.Loop)
+        ∷ task.Emit (occurrence.Enter id names.now) ∷ task.Visit block ∷ task.Emit occurrence.Close ∷ [])) }
 {
     let mut tasks = Tasks::new(alloc);
     let count = names.len();
-    tasks.emit(Event::Declare { node: id, count })?;
+    tasks.emit(Occurrence::Declare { node: id, count })?;
     tasks.visit_all(exps)?;
     tasks.open_loop()?;
     tasks.enter(alloc, id, names)?;
     tasks.visit(block)?;
-    tasks.emit(Event::Close)?;
+    tasks.emit(Occurrence::Close)?;
     Ok(tasks)
 }
 
@@ -234,18 +254,18 @@ fn function_tasks(
     vararg: bool,
     block: NodeId,
 ) -> Result<Tasks, AllocError>
-    ensures { IfOk result (λ tasks. tasks ≡ task.Emit (event.Open (opening.Function id vararg))
-        ∷ task.Emit (event.Declare id (length params.now)) ∷ task.Emit (event.Enter id params.now)
-        ∷ task.Visit block ∷ task.Emit event.Close ∷ []) }
+    ensures { IfOk result (λ tasks. tasks ≡ task.Emit (occurrence.Open (kind.Function id vararg))
+        ∷ task.Emit (occurrence.Declare id (length params.now)) ∷ task.Emit (occurrence.Enter id params.now)
+        ∷ task.Visit block ∷ task.Emit occurrence.Close ∷ []) }
 {
     let mut tasks = Tasks::new(alloc);
-    let opening = Opening::Function { node: id, vararg };
-    tasks.emit(Event::Open { opening })?;
+    let kind = ScopeKind::Function { node: id, vararg };
+    tasks.emit(Occurrence::Open { kind })?;
     let count = params.len();
-    tasks.emit(Event::Declare { node: id, count })?;
+    tasks.emit(Occurrence::Declare { node: id, count })?;
     tasks.enter(alloc, id, params)?;
     tasks.visit(block)?;
-    tasks.emit(Event::Close)?;
+    tasks.emit(Occurrence::Close)?;
     Ok(tasks)
 }
 
@@ -258,17 +278,17 @@ fn return_tasks(alloc: Global, exps: &Ids) -> Result<Tasks, AllocError>
 }
 
 fn goto_tasks(alloc: Global, line: u32, label: &AstText) -> Result<Tasks, AllocError>
-    ensures { IfOk result (λ tasks. tasks ≡ task.Emit (event.Goto line label.now) ∷ []) }
+    ensures { IfOk result (λ tasks. tasks ≡ task.Emit (occurrence.Goto line label.now) ∷ []) }
 {
     let label = copy_name(alloc, label)?;
-    one_event(alloc, Event::Goto { line, label })
+    one_occurrence(alloc, Occurrence::Goto { line, label })
 }
 
 fn name_tasks(alloc: Global, id: NodeId, text: &AstText) -> Result<Tasks, AllocError>
-    ensures { IfOk result (λ tasks. tasks ≡ task.Emit (event.Use id text.now) ∷ []) }
+    ensures { IfOk result (λ tasks. tasks ≡ task.Emit (occurrence.Use id text.now) ∷ []) }
 {
     let name = copy_name(alloc, text)?;
-    one_event(alloc, Event::Use { node: id, name })
+    one_occurrence(alloc, Occurrence::Use { node: id, name })
 }
 
 /// The tasks of a call, and of a method's call on its object.

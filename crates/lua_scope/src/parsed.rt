@@ -5,16 +5,17 @@ ghost use Rattle.lua_lexer.specs.Lexes.{Lexes};
 ghost use Rattle.lua_ast.specs.Once.{IsEachOnce};
 ghost use Rattle.lua_parser.specs.Parsing.{tree_of};
 ghost use Rattle.lua_scope.specs.Loads.{most_text, HasTokensOf, Loads, LoadsAs, IsLoadFailure};
-ghost use Rattle.lua_scope.specs.OfChunk.{history_of};
-ghost use Rattle.lua_scope.specs.declared.event.Event.{Event as EventOf};
-ghost use Rattle.lua_scope.specs.declared.event.Event.TheVariants as event;
+ghost use Rattle.lua_scope.specs.OfChunk.{occurrences_of};
+ghost use Rattle.lua_scope.specs.declared.occurrence.Occurrence.{Occurrence as OccurrenceOf};
+ghost use Rattle.lua_scope.specs.declared.occurrence.Occurrence.TheVariants as occurrence;
 ghost use Rattle.lua_scope.specs.Scope.{declared, first_variable};
 ghost use Rattle.lua_scope.specs.Variables.{meaning, place_by, place_of, is_captured as is_captured_in, captured_by};
 ghost use Rattle.lua_scope.specs.Meets.{Meets};
 
-use crate::load_error::{LoadError, of_lex, of_parse, of_scope};
+use crate::load_error::{LoadError, of_lex, of_parse};
 use crate::place::Place;
-use crate::scoped::ScopedChunk;
+use crate::run::resolve;
+use crate::tables::Tables;
 use lua_ast::{Chunk, NodeId};
 use lua_lexer::{Token, lex};
 use lua_parser::parse;
@@ -28,19 +29,24 @@ pub const MOST_TEXT: usize = 1_048_576;
 #[derive(Debug, Drop)]
 pub struct Parsed {
     text: Vec<u8>,
-    scoped: ScopedChunk,
+    chunk: Chunk,
+    tables: Tables,
 }
 
 impl Model for Parsed {
     ghost use Rattle.lua_scope.specs.Loads.{Program, LoadsAs};
     ghost use Rattle.lua_parser.specs.Parsing.{tree_of};
+    ghost use Rattle.std.specs.Prelude.{length};
     ghost use Rattle.lua_ast.specs.Once.{IsEachOnce};
+    ghost use Rattle.lua_scope.specs.OfChunk.{occurrences_of};
+    ghost use Rattle.lua_scope.specs.Resolved.{TablesAre};
 
     ghost Value = { Program };
 
-    ghost view = { λ p. record { text = p.text.items; chunk = p.scoped } };
+    ghost view = { λ p. record { text = p.text.items; chunk = p.chunk } };
 
-    ghost invariant = { λ p. LoadsAs p.text.items (tree_of p.scoped) × IsEachOnce p.scoped };
+    ghost invariant = { λ p. LoadsAs p.text.items (tree_of p.chunk) × IsEachOnce p.chunk
+        × TablesAre (length p.chunk.nodes) p.tables (occurrences_of p.chunk) };
 }
 
 /// The tokens of a text.
@@ -83,10 +89,12 @@ pub fn load(alloc: Global, text: Vec<u8>) -> Result<Parsed, LoadError>
         return Err(LoadError::TextTooLong(bytes.len() as u64));
     }
     let chunk = chunk_of(alloc, bytes)?;
-    match ScopedChunk::new(alloc, chunk) {
-        Ok(scoped) => Ok(Parsed { text, scoped }),
-        Err(error) => Err(of_scope(error)),
-    }
+    let tables = resolve(alloc, &chunk)?;
+    Ok(Parsed {
+        text,
+        chunk,
+        tables,
+    })
 }
 
 impl Parsed {
@@ -104,36 +112,44 @@ impl Parsed {
         ensures loads { LoadsAs self.now.text (tree_of self.now.chunk) }
         ensures once { IsEachOnce self.now.chunk }
     {
-        self.scoped.chunk()
+        &self.chunk
     }
 
     /// How many variables the text names.
     pub fn variables(&self) -> u32
-        ensures { result ≡ declared (history_of self.now.chunk) }
+        ensures { result ≡ declared (occurrences_of self.now.chunk) }
     {
-        self.scoped.variables()
+        self.tables.declared
     }
 
     /// What a Name node stands for: what its name means where the text has it. For any other node
     /// the answer is `Global`.
-    #[tactic(auto, using(crate::proofs::MetOnce::place_there))]
     pub fn place(&self, id: NodeId) -> Place
         requires { id < length self.now.chunk.nodes }
-        ensures place { result ≡ place_of (history_of self.now.chunk) id }
-        ensures there { (name : List ℕ) (before : List EventOf) →
-            Meets (history_of self.now.chunk) before (event.Use id name) →
-            result ≡ place_by (history_of self.now.chunk) (meaning before name) }
+        ensures place { result ≡ place_of (occurrences_of self.now.chunk) id }
+        ensures there { (name : List ℕ) (before : List OccurrenceOf) →
+            Meets (occurrences_of self.now.chunk) before (occurrence.Use id name) →
+            result ≡ place_by (occurrences_of self.now.chunk) (meaning before name) }
     {
-        self.scoped.place(id)
+        match self.tables.meanings[id.index()] {
+            None => Place::Global,
+            Some(variable) => {
+                if self.is_captured(variable) {
+                    Place::Captured(variable)
+                } else {
+                    Place::Local(variable)
+                }
+            }
+        }
     }
 
     /// The variables that a Function node captures: those named before its own that it or a
     /// function in it uses, rising.
     pub fn captured(&self, id: NodeId) -> &[u32]
         requires { id < length self.now.chunk.nodes }
-        ensures { result.now ≡ captured_by (history_of self.now.chunk) id }
+        ensures { result.now ≡ captured_by (occurrences_of self.now.chunk) id }
     {
-        self.scoped.captured(id)
+        self.tables.captured[id.index()].as_slice()
     }
 
     /// The number of the first variable that a node names; the others follow it in order. For a
@@ -141,18 +157,22 @@ impl Parsed {
     /// nothing 0.
     pub fn first_variable(&self, id: NodeId) -> u32
         requires { id < length self.now.chunk.nodes }
-        ensures number { result ≡ first_variable (history_of self.now.chunk) id }
-        ensures there { (count : ℕ) (before : List EventOf) →
-            Meets (history_of self.now.chunk) before (event.Declare id count) →
+        ensures number { result ≡ first_variable (occurrences_of self.now.chunk) id }
+        ensures there { (count : ℕ) (before : List OccurrenceOf) →
+            Meets (occurrences_of self.now.chunk) before (occurrence.Declare id count) →
             result ≡ declared before }
     {
-        self.scoped.first_variable(id)
+        self.tables.first[id.index()]
     }
 
     /// Whether some function captures the variable.
     pub fn is_captured(&self, variable: u32) -> bool
-        ensures { result ≡ is_captured_in (history_of self.now.chunk) variable }
+        ensures { result ≡ is_captured_in (occurrences_of self.now.chunk) variable }
     {
-        self.scoped.is_captured(variable)
+        self.tables
+            .is_captured
+            .get(variable as usize)
+            .copied()
+            .unwrap_or(false)
     }
 }

@@ -1,15 +1,15 @@
 //! The variables of a text.
 
 ghost use Rattle.std.specs.Prelude.{◌≡◌, ◌<◌, ◌+◌, ◌^◌, ◌||◌, ◌∷◌, [], ℕ, List, Some, false, length, slice_set, slice_index_or, ◌==◌, IfOk};
-ghost use Rattle.lua_scope.specs.declared.event.Event.{Event as EventOf};
+ghost use Rattle.lua_scope.specs.declared.occurrence.Occurrence.{Occurrence as OccurrenceOf};
 ghost use Rattle.lua_scope.specs.Scope.{entered};
 ghost use Rattle.lua_scope.specs.Variables.{variable_named, captured_in, also, with_use, with_meaning};
-ghost use Rattle.lua_scope.specs.Walking.{EventBelow};
+ghost use Rattle.lua_scope.specs.Walking.{OccurrenceBelow};
 ghost use Rattle.lua_scope.specs.Resolved.{Resolved};
 
 use crate::capture::capture;
-use crate::event::Event;
 use crate::numbers::Numbers;
+use crate::occurrence::Occurrence;
 use crate::scope::Scope;
 use lua_ast::{AstText, AstTexts, NodeId};
 use std::alloc::{AllocError, Global};
@@ -20,7 +20,8 @@ pub(crate) struct Resolver {
     pub(crate) scope: Scope,
     /// How many variables the text has named.
     pub(crate) declared: u32,
-    /// For each node the number of the first variable that it names, or 0.
+    /// For each node the number of the first variable that it names. A function without
+    /// parameters has the number at which its own variables begin, a node that declares nothing 0.
     pub(crate) first: Vec<u32>,
     /// For each node the variable that it means, if it is a Name and means one.
     pub(crate) meanings: Vec<Option<u32>>,
@@ -31,39 +32,39 @@ pub(crate) struct Resolver {
 }
 
 impl Resolver {
-    /// Goes on by an event. The only refusal is want of memory, and it comes too where 32 bits
+    /// Goes on by an occurrence. The only refusal is want of memory, and it comes too where 32 bits
     /// can't number a variable more.
-    pub(crate) fn take(&mut self, alloc: Global, event: Event) -> Result<(), AllocError>
-        requires below { EventBelow (length self.old.first.items) event }
+    pub(crate) fn take(&mut self, alloc: Global, occurrence: Occurrence) -> Result<(), AllocError>
+        requires below { OccurrenceBelow (length self.old.first.items) occurrence }
         requires even { length self.old.meanings.items ≡ length self.old.first.items }
-        ensures { IfOk result (λ _. (n : ℕ) (h : List EventOf) →
-            Resolved n self.old h → Resolved n self.new (event ∷ h)) }
+        ensures { IfOk result (λ _. (n : ℕ) (seen : List OccurrenceOf) →
+            Resolved n self.old seen → Resolved n self.new (occurrence ∷ seen)) }
     {
-        match event {
-            Event::Open { opening } => {
-                self.scope.open(opening)?;
+        match occurrence {
+            Occurrence::Open { kind } => {
+                self.scope.open(kind)?;
                 Ok(())
             }
-            Event::Close => {
+            Occurrence::Close => {
                 self.scope.close();
                 Ok(())
             }
-            Event::Declare { node, count } => {
+            Occurrence::Declare { node, count } => {
                 self.declare(node, count)?;
                 Ok(())
             }
-            Event::Enter { node, names } => {
+            Occurrence::Enter { node, names } => {
                 self.enter(alloc, node, &names)?;
                 Ok(())
             }
-            Event::Use { node, name } => {
+            Occurrence::Use { node, name } => {
                 self.use_name(node, &name)?;
                 Ok(())
             }
-            Event::Goto { .. } => Ok(()),
-            Event::SecondLabel { .. } => Ok(()),
-            Event::Break { .. } => Ok(()),
-            Event::Vararg { .. } => Ok(()),
+            Occurrence::Goto { .. } => Ok(()),
+            Occurrence::SecondLabel { .. } => Ok(()),
+            Occurrence::Break { .. } => Ok(()),
+            Occurrence::Vararg { .. } => Ok(()),
         }
     }
 

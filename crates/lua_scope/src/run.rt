@@ -1,16 +1,16 @@
 //! The scope rules over a whole text.
 
-ghost use Rattle.std.specs.Prelude.{◌≡◌, [], Some, None, length, replicate, reverse, IfOk, IfErr};
-ghost use Rattle.lua_ast.specs.Decode.{tree, own_number};
-ghost use Rattle.lua_scope.specs.History.{history};
+ghost use Rattle.std.specs.Prelude.{◌≡◌, [], None, length, replicate, IfOk, IfErr};
+ghost use Rattle.lua_scope.specs.OfChunk.{occurrences_of};
 ghost use Rattle.lua_scope.specs.Refusals.{first_refusal};
-ghost use Rattle.lua_scope.specs.Resolved.{Resolved, TellsRefusal};
+ghost use Rattle.lua_scope.specs.Resolved.{Resolved, TablesAre, IsFirstRefusal};
 
+use crate::load_error::LoadError;
 use crate::numbers::Numbers;
-use crate::refusal::ScopeError;
 use crate::resolver::Resolver;
 use crate::scope::Scope;
-use crate::walk::events_of;
+use crate::tables::{Tables, tables_of};
+use crate::walk::occurrences_of;
 use lua_ast::Chunk;
 use std::alloc::{AllocError, Global};
 
@@ -54,23 +54,36 @@ fn new_resolver(alloc: Global, nodes: usize) -> Result<Resolver, AllocError>
 }
 
 /// Runs through the text.
-pub(crate) fn run(alloc: Global, chunk: &Chunk) -> Result<Resolver, ScopeError>
+fn run(alloc: Global, chunk: &Chunk) -> Result<Resolver, LoadError>
     ensures tables { IfOk result (λ resolver.
-        Resolved (length chunk.now.nodes) resolver
-        (history [] (tree own_number chunk.now.nodes chunk.now.root))) }
-    ensures loads { IfOk result (λ _.
-        first_refusal (history [] (tree own_number chunk.now.nodes chunk.now.root)) ≡ None) }
-    ensures refused { IfErr result (λ error. TellsRefusal error
-        (first_refusal (history [] (tree own_number chunk.now.nodes chunk.now.root)))) }
+        Resolved (length chunk.now.nodes) resolver (occurrences_of chunk.now)) }
+    ensures loads { IfOk result (λ _. first_refusal (occurrences_of chunk.now) ≡ None) }
+    ensures refused { IfErr result (λ error.
+        IsFirstRefusal (first_refusal (occurrences_of chunk.now)) error) }
 {
-    let mut events = events_of(alloc, chunk)?;
-    events.reverse();
+    let mut occurrences = occurrences_of(alloc, chunk)?;
+    occurrences.reverse();
     let mut resolver = new_resolver(alloc, chunk.len())?;
-    while let Some(event) = events.pop() {
-        if let Some(refusal) = resolver.scope.refusal(&event) {
-            return Err(ScopeError::Refused(refusal));
+    while let Some(occurrence) = occurrences.pop() {
+        if let Some(refusal) = resolver.scope.refusal(&occurrence) {
+            return Err(refusal);
         }
-        resolver.take(alloc, event)?;
+        resolver.take(alloc, occurrence)?;
     }
     Ok(resolver)
+}
+
+/// Works out what the names and labels of a chunk mean. The chunk is refused exactly where it
+/// breaks a scope rule, and then the refusal is the first in text order; else there is no other
+/// refusal than want of memory.
+pub(crate) fn resolve(alloc: Global, chunk: &Chunk) -> Result<Tables, LoadError>
+    ensures tables { IfOk result (λ tables.
+        TablesAre (length chunk.now.nodes) tables (occurrences_of chunk.now)) }
+    ensures loads { IfOk result (λ _. first_refusal (occurrences_of chunk.now) ≡ None) }
+    ensures refused { IfErr result (λ error.
+        IsFirstRefusal (first_refusal (occurrences_of chunk.now)) error) }
+{
+    let resolver = run(alloc, chunk)?;
+    let tables = tables_of(alloc, resolver)?;
+    Ok(tables)
 }

@@ -3,11 +3,11 @@
 ghost use Rattle.std.specs.Prelude.{◌≡◌, ◌+◌, ◌<◌, ◌^◌, [], length, reverse, IfOk};
 ghost use Rattle.lua_scope.specs.Scope.{opened, closed, entered};
 ghost use Rattle.lua_scope.specs.Variables.{variable_named};
-ghost use Rattle.lua_scope.specs.Refusals.{target, jump as jump_of, in_loop as in_loop_of, has_varargs as has_varargs_of, refusal_in};
+ghost use Rattle.lua_scope.specs.Refusals.{jump as jump_of, in_loop as in_loop_of, has_varargs as has_varargs_of, refusal_in};
 
-use crate::event::{Event, Opening};
 use crate::frame::Frame;
-use crate::refusal::Refusal;
+use crate::load_error::LoadError;
+use crate::occurrence::{Occurrence, ScopeKind};
 use crate::visible::VisibleVariables;
 use lua_ast::{AstText, AstTexts};
 use std::alloc::{AllocError, Global};
@@ -40,11 +40,11 @@ impl Scope {
         }
     }
 
-    pub(crate) fn open(&mut self, opening: Opening) -> Result<(), AllocError>
-        ensures { IfOk result (λ _. self.new ≡ opened opening self.old) }
+    pub(crate) fn open(&mut self, kind: ScopeKind) -> Result<(), AllocError>
+        ensures { IfOk result (λ _. self.new ≡ opened kind self.old) }
     {
         let begins = self.variables.len();
-        self.frames.push(Frame { opening, begins })?;
+        self.frames.push(Frame { kind, begins })?;
         Ok(())
     }
 
@@ -88,25 +88,25 @@ impl Scope {
         self.variables.meaning(name)
     }
 
-    /// What the event is refused for at this place, if it is.
-    pub(crate) fn refusal(&self, event: &Event) -> Option<Refusal>
-        ensures { result ≡ refusal_in self.now event.now }
+    /// What the occurrence is refused for at this place, if it is.
+    pub(crate) fn refusal(&self, occurrence: &Occurrence) -> Option<LoadError>
+        ensures { result ≡ refusal_in self.now occurrence.now }
     {
-        match event {
-            Event::Goto { line, label } => self.jump(*line, label),
-            Event::SecondLabel { line } => Some(Refusal::TwoLabels { line: *line }),
-            Event::Break { line } => {
+        match occurrence {
+            Occurrence::Goto { line, label } => self.jump(*line, label),
+            Occurrence::SecondLabel { line } => Some(LoadError::TwoLabels(*line)),
+            Occurrence::Break { line } => {
                 if self.in_loop() {
                     None
                 } else {
-                    Some(Refusal::BreakOutside { line: *line })
+                    Some(LoadError::BreakOutside(*line))
                 }
             }
-            Event::Vararg { line } => {
+            Occurrence::Vararg { line } => {
                 if self.has_varargs() {
                     None
                 } else {
-                    Some(Refusal::VarargOutside { line: *line })
+                    Some(LoadError::VarargOutside(*line))
                 }
             }
             _ => None,
@@ -116,24 +116,24 @@ impl Scope {
     /// What a goto on this line to this label is refused for: the innermost block of the function
     /// that has the label decides.
     #[tactic(auto, using(crate::proofs::Reversed::reverse_push))]
-    fn jump(&self, line: u32, label: &AstText) -> Option<Refusal>
+    fn jump(&self, line: u32, label: &AstText) -> Option<LoadError>
         ensures { result ≡ jump_of line label.now (length self.now.variables) (reverse self.now.frames) }
     {
         let mut here = self.variables.len();
         for frame in self.frames.iter().rev() {
-            match &frame.opening {
-                Opening::Block { labels, inside } => {
+            match &frame.kind {
+                ScopeKind::Block { labels, inside } => {
                     if let Some(there) = labels.target(*inside, label) {
                         let into_local = here.saturating_sub(frame.begins) < there;
-                        return into_local.then_some(Refusal::JumpsIntoLocal { line });
+                        return into_local.then_some(LoadError::JumpsIntoLocal(line));
                     }
                 }
-                Opening::Loop => {}
-                Opening::Function { .. } => return Some(Refusal::NoLabel { line }),
+                ScopeKind::Loop => {}
+                ScopeKind::Function { .. } => return Some(LoadError::NoLabel(line)),
             }
             here = frame.begins;
         }
-        Some(Refusal::NoLabel { line })
+        Some(LoadError::NoLabel(line))
     }
 
     /// Whether a loop of the function is open.
@@ -142,10 +142,10 @@ impl Scope {
         ensures { result ≡ in_loop_of (reverse self.now.frames) }
     {
         for frame in self.frames.iter().rev() {
-            match &frame.opening {
-                Opening::Block { .. } => {}
-                Opening::Loop => return true,
-                Opening::Function { .. } => return false,
+            match &frame.kind {
+                ScopeKind::Block { .. } => {}
+                ScopeKind::Loop => return true,
+                ScopeKind::Function { .. } => return false,
             }
         }
         false
@@ -157,7 +157,7 @@ impl Scope {
         ensures { result ≡ has_varargs_of (reverse self.now.frames) }
     {
         for frame in self.frames.iter().rev() {
-            if let Opening::Function { vararg, .. } = &frame.opening {
+            if let ScopeKind::Function { vararg, .. } = &frame.kind {
                 return *vararg;
             }
         }

@@ -1,8 +1,8 @@
 //! What is known of a whole text's variables.
 
 ghost use Rattle.std.specs.Prelude.{◌≡◌, ℕ, List, IfOk};
-ghost use Rattle.lua_scope.specs.declared.event.Event.{Event as EventOf};
-ghost use Rattle.lua_scope.specs.Resolved.{Resolved, Tell};
+ghost use Rattle.lua_scope.specs.declared.occurrence.Occurrence.{Occurrence as OccurrenceOf};
+ghost use Rattle.lua_scope.specs.Resolved.{Resolved, TablesAre};
 
 use crate::numbers::Numbers;
 use crate::resolver::Resolver;
@@ -14,7 +14,8 @@ use std::alloc::{AllocError, Global};
 pub(crate) struct Tables {
     /// How many variables the text names.
     pub(crate) declared: u32,
-    /// For each node the number of the first variable that it names, or 0.
+    /// For each node the number of the first variable that it names. A function without
+    /// parameters has the number at which its own variables begin, a node that declares nothing 0.
     pub(crate) first: Vec<u32>,
     /// For each node the variable that it means, if it is a Name and means one.
     pub(crate) meanings: Vec<Option<u32>>,
@@ -37,8 +38,8 @@ fn sequences_of(alloc: Global, numbers: Vec<Numbers>) -> Result<Vec<Sequence<u32
 
 /// What is known at the end of a text.
 pub(crate) fn tables_of(alloc: Global, resolver: Resolver) -> Result<Tables, AllocError>
-    ensures { IfOk result (λ tables. (n : ℕ) (h : List EventOf) →
-        Resolved n resolver h → Tell n tables h) }
+    ensures { IfOk result (λ tables. (n : ℕ) (seen : List OccurrenceOf) →
+        Resolved n resolver seen → TablesAre n tables seen) }
 {
     let Resolver {
         declared,

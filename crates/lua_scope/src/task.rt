@@ -2,11 +2,11 @@
 
 ghost use Rattle.std.specs.Prelude.{◌≡◌, ◌∷◌, ◌++◌, [], IfOk};
 ghost use Rattle.lua_scope.specs.declared.task.Task.TheVariants as task;
-ghost use Rattle.lua_scope.specs.declared.event.Event.TheVariants as event;
-ghost use Rattle.lua_scope.specs.declared.event.Opening.TheVariants as opening;
+ghost use Rattle.lua_scope.specs.declared.occurrence.Occurrence.TheVariants as occurrence;
+ghost use Rattle.lua_scope.specs.declared.occurrence.ScopeKind.TheVariants as kind;
 ghost use Rattle.lua_scope.specs.Tasks.{visits, field_tasks, case_tasks, maybe_task};
 
-use crate::event::{Event, Opening};
+use crate::occurrence::{Occurrence, ScopeKind};
 use lua_ast::{AstText, AstTexts, Field, Fields, Ids, NodeId};
 use std::alloc::{AllocError, Global};
 use std::marker::Model;
@@ -18,7 +18,7 @@ pub(crate) enum Task {
     Visit(NodeId),
     /// A block up to its end, which stays open. `repeats` tells whether it is the body of a repeat.
     Body { node: NodeId, repeats: bool },
-    Emit(Event),
+    Emit(Occurrence),
 }
 
 /// Tasks in text order.
@@ -64,18 +64,18 @@ impl Tasks {
         self.push(Task::Visit(node))
     }
 
-    pub(crate) fn emit(&mut self, event: Event) -> Result<(), AllocError>
-        ensures { IfOk result (λ _. self.new ≡ self.old ++ task.Emit event ∷ []) }
+    pub(crate) fn emit(&mut self, occurrence: Occurrence) -> Result<(), AllocError>
+        ensures { IfOk result (λ _. self.new ≡ self.old ++ task.Emit occurrence ∷ []) }
     {
-        self.push(Task::Emit(event))
+        self.push(Task::Emit(occurrence))
     }
 
     /// The turns of a loop begin.
     pub(crate) fn open_loop(&mut self) -> Result<(), AllocError>
-        ensures { IfOk result (λ _. self.new ≡ self.old ++ task.Emit (event.Open opening.Loop) ∷ []) }
+        ensures { IfOk result (λ _. self.new ≡ self.old ++ task.Emit (occurrence.Open kind.Loop) ∷ []) }
     {
-        let opening = Opening::Loop;
-        self.emit(Event::Open { opening })
+        let kind = ScopeKind::Loop;
+        self.emit(Occurrence::Open { kind })
     }
 
     /// The variables of these names come into scope.
@@ -86,10 +86,10 @@ impl Tasks {
         names: &AstTexts,
     ) -> Result<(), AllocError>
         ensures { IfOk result (λ _.
-            self.new ≡ self.old ++ task.Emit (event.Enter node names.now) ∷ []) }
+            self.new ≡ self.old ++ task.Emit (occurrence.Enter node names.now) ∷ []) }
     {
         let names = copy_names(alloc, names)?;
-        self.emit(Event::Enter { node, names })
+        self.emit(Occurrence::Enter { node, names })
     }
 
     /// The variable of this name comes into scope.
@@ -100,11 +100,11 @@ impl Tasks {
         name: &AstText,
     ) -> Result<(), AllocError>
         ensures { IfOk result (λ _.
-            self.new ≡ self.old ++ task.Emit (event.Enter node (name.now ∷ [])) ∷ []) }
+            self.new ≡ self.old ++ task.Emit (occurrence.Enter node (name.now ∷ [])) ∷ []) }
     {
         let mut names = AstTexts::new(alloc);
         names.push(copy_name(alloc, name)?)?;
-        self.emit(Event::Enter { node, names })
+        self.emit(Occurrence::Enter { node, names })
     }
 
     pub(crate) fn visit_all(&mut self, nodes: &Ids) -> Result<(), AllocError>

@@ -1,15 +1,16 @@
 //! The walk through a text from left to right.
 
-ghost use Rattle.std.specs.Prelude.{All, ◌≡◌, ◌<◌, ◌+◌, ◌∷◌, ◌++◌, List, [], length, reverse, IfOk, MatchOption};
+ghost use Rattle.std.specs.Prelude.{All, ◌≡◌, ◌<◌, ◌∷◌, ◌++◌, List, [], length, reverse, IfOk, MatchOption};
 ghost use Rattle.lua_ast.specs.Decode.{tree, own_number};
-ghost use Rattle.lua_scope.specs.declared.event.Event.{Event as EventOf};
-ghost use Rattle.lua_scope.specs.History.{history};
+ghost use Rattle.lua_scope.specs.declared.occurrence.Occurrence.{Occurrence as OccurrenceOf};
+ghost use Rattle.lua_scope.specs.Walk.{walked};
+ghost use Rattle.lua_scope.specs.OfChunk.{occurrences_of};
 ghost use Rattle.lua_scope.specs.Tasks.{walks};
-ghost use Rattle.lua_scope.specs.Walking.{size, weights, EventBelow, TaskBelow, TasksBelow};
+ghost use Rattle.lua_scope.specs.Walking.{size, weights, OccurrenceBelow, TaskBelow, TasksBelow};
 
 use crate::block::body_tasks;
-use crate::event::Event;
 use crate::node_tasks::node_tasks;
+use crate::occurrence::Occurrence;
 use crate::task::Task;
 use lua_ast::{Chunk, NodeId};
 use std::alloc::{AllocError, Global};
@@ -61,9 +62,9 @@ impl Pending {
 /// The tasks that a task leaves to be done, of a node.
 fn visit(alloc: Global, chunk: &Chunk, id: NodeId) -> Result<Vec<Task>, AllocError>
     requires { id < length chunk.now.nodes }
-    ensures walk { IfOk result (λ tasks. (h : List EventOf) →
-        walks (tree own_number chunk.now.nodes) h tasks.items
-        ≡ history h (tree own_number chunk.now.nodes id)) }
+    ensures walk { IfOk result (λ tasks. (seen : List OccurrenceOf) →
+        walks (tree own_number chunk.now.nodes) seen tasks.items
+        ≡ walked seen (tree own_number chunk.now.nodes id)) }
     ensures less { IfOk result (λ tasks. weights (tree own_number chunk.now.nodes) tasks.items
         < size (tree own_number chunk.now.nodes id)) }
     ensures below { IfOk result (λ tasks. TasksBelow (length chunk.now.nodes) tasks.items) }
@@ -79,23 +80,23 @@ fn step(
     chunk: &Chunk,
     task: Task,
     pending: &mut Pending,
-    events: &mut Vec<Event>,
+    occurrences: &mut Vec<Occurrence>,
 ) -> Result<(), AllocError>
     requires { TaskBelow (length chunk.now.nodes) task }
     ensures walk { IfOk result (λ _.
-        walks (tree own_number chunk.now.nodes) (reverse events.new.items) pending.new
-        ≡ walks (tree own_number chunk.now.nodes) (reverse events.old.items)
+        walks (tree own_number chunk.now.nodes) (reverse occurrences.new.items) pending.new
+        ≡ walks (tree own_number chunk.now.nodes) (reverse occurrences.old.items)
         (task ∷ pending.old)) }
     ensures less { IfOk result (λ _. weights (tree own_number chunk.now.nodes) pending.new
         < weights (tree own_number chunk.now.nodes) (task ∷ pending.old)) }
     ensures below { IfOk result (λ _. TasksBelow (length chunk.now.nodes) pending.old →
         TasksBelow (length chunk.now.nodes) pending.new) }
-    ensures events { IfOk result (λ _. All (EventBelow (length chunk.now.nodes)) events.old.items →
-        All (EventBelow (length chunk.now.nodes)) events.new.items) }
+    ensures occurrences { IfOk result (λ _. All (OccurrenceBelow (length chunk.now.nodes)) occurrences.old.items →
+        All (OccurrenceBelow (length chunk.now.nodes)) occurrences.new.items) }
 {
     match task {
-        Task::Emit(event) => {
-            events.push(event)?;
+        Task::Emit(occurrence) => {
+            occurrences.push(occurrence)?;
             Ok(())
         }
         Task::Visit(node) => {
@@ -110,19 +111,19 @@ fn step(
 }
 
 /// What the scope rules see of a text, in text order.
-pub(crate) fn events_of(alloc: Global, chunk: &Chunk) -> Result<Vec<Event>, AllocError>
-    ensures history { IfOk result (λ events. reverse events.items
-        ≡ history [] (tree own_number chunk.now.nodes chunk.now.root)) }
-    ensures below { IfOk result (λ events.
-        All (EventBelow (length chunk.now.nodes)) events.items) }
+pub(crate) fn occurrences_of(alloc: Global, chunk: &Chunk) -> Result<Vec<Occurrence>, AllocError>
+    ensures walk { IfOk result (λ occurrences.
+        reverse occurrences.items ≡ occurrences_of chunk.now) }
+    ensures below { IfOk result (λ occurrences.
+        All (OccurrenceBelow (length chunk.now.nodes)) occurrences.items) }
 {
     let mut pending = Pending::new(alloc);
     let mut first = Vec::new(alloc);
     first.push(Task::Visit(chunk.root()))?;
     pending.push_all(first)?;
-    let mut events = Vec::new(alloc);
+    let mut occurrences = Vec::new(alloc);
     while let Some(task) = pending.pop() {
-        step(alloc, chunk, task, &mut pending, &mut events)?;
+        step(alloc, chunk, task, &mut pending, &mut occurrences)?;
     }
-    Ok(events)
+    Ok(occurrences)
 }

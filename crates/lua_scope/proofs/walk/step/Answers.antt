@@ -6,8 +6,8 @@ use Rattle.lua_scope.proofs.walk.step.Goals as goal
 
 pub returns-in_ok-push_all-in-Visit-clause-walk : goal.returns-in_ok-push_all-in-Visit-clause-walk
 returns-in_ok-push_all-in-Visit-clause-walk c =
-    stepped (tree own_number c.args.chunk.now.nodes) (reverse c.args.events.now.items) c.args.task (Visit c.in-Visit.node) c.in_ok-visit-in-Visit.field-0.items c.args.pending.now c.push_all.new.self
-    c.in-Visit.is c.in_ok-push_all-in-Visit.ensures (c.in_ok-visit-in-Visit.ensures.walk (reverse c.args.events.now.items))
+    stepped (tree own_number c.args.chunk.now.nodes) (reverse c.args.occurrences.now.items) c.args.task (Visit c.in-Visit.node) c.in_ok-visit-in-Visit.field-0.items c.args.pending.now c.push_all.new.self
+    c.in-Visit.is c.in_ok-push_all-in-Visit.ensures (c.in_ok-visit-in-Visit.ensures.walk (reverse c.args.occurrences.now.items))
 
 pub returns-in_ok-push_all-in-Visit-clause-less : goal.returns-in_ok-push_all-in-Visit-clause-less
 returns-in_ok-push_all-in-Visit-clause-less c =
@@ -20,8 +20,8 @@ returns-in_ok-push_all-in-Visit-clause-below c =
 
 pub returns-in_ok-push_all-in-Body-clause-walk : goal.returns-in_ok-push_all-in-Body-clause-walk
 returns-in_ok-push_all-in-Body-clause-walk c =
-    stepped (tree own_number c.args.chunk.now.nodes) (reverse c.args.events.now.items) c.args.task (Body c.in-Body.node c.in-Body.repeats) c.in_ok-body_tasks-in-Body.field-0.items c.args.pending.now c.push_all-in-Body.new.self
-    c.in-Body.is c.in_ok-push_all-in-Body.ensures (c.in_ok-body_tasks-in-Body.ensures.walk (reverse c.args.events.now.items))
+    stepped (tree own_number c.args.chunk.now.nodes) (reverse c.args.occurrences.now.items) c.args.task (Body c.in-Body.node c.in-Body.repeats) c.in_ok-body_tasks-in-Body.field-0.items c.args.pending.now c.push_all-in-Body.new.self
+    c.in-Body.is c.in_ok-push_all-in-Body.ensures (c.in_ok-body_tasks-in-Body.ensures.walk (reverse c.args.occurrences.now.items))
 
 pub returns-in_ok-push_all-in-Body-clause-less : goal.returns-in_ok-push_all-in-Body-clause-less
 returns-in_ok-push_all-in-Body-clause-less c =

@@ -1,7 +1,7 @@
 use Rattle.std.proofs.Common.{◌≤◌, List, length, ap, ◌∙◌, sym, subst, arith}
 use Rattle.lua_ast.specs.Decode.{tree, own_number}
 use Rattle.lua_scope.specs.declared.task.Task.{Task}
-use Rattle.lua_scope.specs.History.{history}
+use Rattle.lua_scope.specs.Walk.{walked}
 use Rattle.lua_scope.specs.Tasks.{walks}
 use Rattle.lua_scope.specs.Walking.{size, weights, TasksBelow}
 use Rattle.lua_scope.proofs.NodeWalks.{walks_node}
@@ -12,7 +12,7 @@ pub returns-clause-walk : goal.returns-clause-walk
 returns-clause-walk c = λ h.
     let made = c.node.ensures.tree own_number c.line-line.result c.line-line.ensures.line
     in ap (walks (tree own_number c.args.chunk.now.nodes) h) (c.into_vec.ensures ∙ c.in_ok-tasks.ensures)
-    ∙ (walks_node (tree own_number c.args.chunk.now.nodes) h c.args.id c.line-line.result c.node.result.now made ∙ ap (history h) (sym made))
+    ∙ (walks_node (tree own_number c.args.chunk.now.nodes) h c.args.id c.line-line.result c.node.result.now made ∙ ap (walked h) (sym made))
 
 pub returns-clause-less : goal.returns-clause-less
 returns-clause-less c =

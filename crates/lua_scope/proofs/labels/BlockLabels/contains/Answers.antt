@@ -9,5 +9,5 @@ use Rattle.lua_scope.proofs.labels.BlockLabels.contains.Goals as goal
 pub returns : goal.returns
 returns c =
     c.contains_key.ensures ∙ (ap (λ (x : List ℕ). is_some (at_name x c.self.inside.first)) c.as_slice.ensures
-    ∙ (ap is_some (c.self.invariant.first_is c.args.name.now)
+    ∙ (ap is_some (c.self.invariant c.args.name.now)
     ∙ (first_tells c.args.name.now c.self.inside.labels.items ∙ ap (list_any (has_name c.args.name.now)) c.self.view_is)))

@@ -1,7 +1,7 @@
 use Rattle.std.proofs.Common.{◌≡◌, ℕ, List, [], ◌∷◌, ◌++◌, length, sym, ap, subst, ◌∙◌}
 use Rattle.std.specs.Prelude.{Some, None, cond, bytes_eq}
 use Rattle.std.specs.Option.{option_or}
-use Rattle.lua_scope.specs.declared.event.Label.{Label}
+use Rattle.lua_scope.specs.declared.occurrence.Label.{Label}
 use Rattle.lua_scope.specs.ByName.{at_name}
 use Rattle.lua_scope.specs.FirstLabels.{HasFirstLabels}
 use Rattle.lua_scope.proofs.Targets.{pushed_next}

@@ -7,12 +7,12 @@ use Rattle.lua_scope.proofs.labels.BlockLabels.target.Goals as goal
 
 pub returns-in_err-first : goal.returns-in_err-first
 returns-in_err-first c =
-    let read = c.copied.ensures ∙ (c.get.ensures.value ∙ (ap (λ (x : List ℕ). at_name x c.self.inside.first) c.as_slice.ensures ∙ c.self.invariant.first_is c.args.name.now)) in
+    let read = c.copied.ensures ∙ (c.get.ensures.value ∙ (ap (λ (x : List ℕ). at_name x c.self.inside.first) c.as_slice.ensures ∙ c.self.invariant c.args.name.now)) in
     c.from_residual.ensures ∙ aimed c.args.name.now c.args.inside c.self.inside.labels.items c.args.self.now _ (sym c.in_err-first.was ∙ read) c.self.view_is
 
 pub returns-then-first-inside : goal.returns-then-first-inside
 returns-then-first-inside c =
-    let read = c.copied.ensures ∙ (c.get.ensures.value ∙ (ap (λ (x : List ℕ). at_name x c.self.inside.first) c.as_slice.ensures ∙ c.self.invariant.first_is c.args.name.now)) in
+    let read = c.copied.ensures ∙ (c.get.ensures.value ∙ (ap (λ (x : List ℕ). at_name x c.self.inside.first) c.as_slice.ensures ∙ c.self.invariant c.args.name.now)) in
     let first = c.in_ok-first.first in
     let inside : nat_lt first.place c.args.inside ≡ true = (Decides-ltb first.place c.args.inside).1 c.if-first-inside.true in
     sym (ap (λ (b : Bool). Some (cond b first.locals 0)) inside)
@@ -20,7 +20,7 @@ returns-then-first-inside c =
 
 pub returns-else-first-inside : goal.returns-else-first-inside
 returns-else-first-inside c =
-    let read = c.copied.ensures ∙ (c.get.ensures.value ∙ (ap (λ (x : List ℕ). at_name x c.self.inside.first) c.as_slice.ensures ∙ c.self.invariant.first_is c.args.name.now)) in
+    let read = c.copied.ensures ∙ (c.get.ensures.value ∙ (ap (λ (x : List ℕ). at_name x c.self.inside.first) c.as_slice.ensures ∙ c.self.invariant c.args.name.now)) in
     let first = c.in_ok-first.first in
     let outside : nat_lt first.place c.args.inside ≡ false = not_below first.place c.args.inside c.if-first-inside.false in
     sym (ap (λ (b : Bool). Some (cond b first.locals 0)) outside)

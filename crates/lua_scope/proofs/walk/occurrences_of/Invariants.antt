@@ -1,14 +1,14 @@
 use Rattle.std.proofs.Common.{All, ◌≡◌, [], length, reverse}
 use Rattle.lua_ast.specs.Decode.{tree, own_number}
-use Rattle.lua_scope.specs.History.{history}
+use Rattle.lua_scope.specs.Walk.{walked}
 use Rattle.lua_scope.specs.Tasks.{walks}
-use Rattle.lua_scope.specs.Walking.{weights, EventBelow, TasksBelow}
-use Rattle.lua_scope.proofs.walk.events_of.Given as goal
+use Rattle.lua_scope.specs.Walking.{weights, OccurrenceBelow, TasksBelow}
+use Rattle.lua_scope.proofs.walk.occurrences_of.Given as goal
 
 abbrev pub invariant-loop-task : goal.invariant-loop-task
 invariant-loop-task l = record {
-  walk : walks (tree own_number l.chunk.nodes) (reverse l.events.items) l.pending ≡ history [] (tree own_number l.chunk.nodes l.chunk.root);
-  events : All (EventBelow (length l.chunk.nodes)) l.events.items;
+  walk : walks (tree own_number l.chunk.nodes) (reverse l.occurrences.items) l.pending ≡ walked [] (tree own_number l.chunk.nodes l.chunk.root);
+  occurrences : All (OccurrenceBelow (length l.chunk.nodes)) l.occurrences.items;
   below : TasksBelow (length l.chunk.nodes) l.pending;
 }
 

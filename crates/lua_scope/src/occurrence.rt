@@ -11,9 +11,9 @@ pub(crate) struct Label {
     pub locals: usize,
 }
 
-/// What opens.
+/// What a scope is.
 #[derive(Debug, Drop)]
-pub(crate) enum Opening {
+pub(crate) enum ScopeKind {
     /// A block, with its labels. Statements other than labels follow the first `inside` of them;
     /// the others lie outside the block's locals.
     Block { labels: BlockLabels, inside: usize },
@@ -23,11 +23,11 @@ pub(crate) enum Opening {
     Function { node: NodeId, vararg: bool },
 }
 
-/// A step of the walk through a text from left to right.
+/// What the walk through a text from left to right meets.
 #[derive(Debug, Drop)]
-pub(crate) enum Event {
-    Open { opening: Opening },
-    /// What was opened last and is still open ends.
+pub(crate) enum Occurrence {
+    Open { kind: ScopeKind },
+    /// The scope that was opened last and is still open ends.
     Close,
     /// The text names this many new variables, in the node that declares them.
     Declare { node: NodeId, count: usize },
