@@ -1,5 +1,5 @@
 -- A reply that is kept comes from a sync.
-use Rattle.std.proofs.Common.{◌≡◌, ℕ, ◌++◌, List, [], ◌∷◌, inl, inr, refl, ap, sym, ◌∙◌, subst, add-zero, Bool, true, false, is_some, if◌then◌else◌}
+use Rattle.std.proofs.Common.{◌≡◌, ℕ, List, [], ◌∷◌, inl, inr, refl, ap, sym, ◌∙◌, subst, add-zero, Bool, true, false, is_some, if◌then◌else◌}
 use Rattle.std.proofs.lemmas.Bool.Decides.{eqb_tells}
 use Rattle.txg_core.specs.Rules.{Origin}
 use Rattle.txg_core.specs.History.{Step, Hold, Check, Enqueue, Read, Sync, Take, Entry, Call, Group, joined}

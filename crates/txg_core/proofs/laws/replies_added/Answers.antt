@@ -1,4 +1,4 @@
-use Rattle.std.proofs.Common.{◌++◌, List, ap, ◌∙◌}
+use Rattle.std.proofs.Common.{◌++◌, ap, ◌∙◌}
 use Rattle.txg_core.specs.History.{Hold, Check, Enqueue, Read, Take}
 use Rattle.txg_core.specs.Serial.{given}
 use Rattle.txg_core.specs.Laws.{kept_of}
