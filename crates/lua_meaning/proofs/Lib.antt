@@ -1,0 +1,12 @@
+mod Writing
+mod SampleHost
+mod ProgramExamples
+mod StatementExamples
+mod LoopExamples
+mod JumpExamples
+mod ExpressionExamples
+mod ListExamples
+mod OperatorExamples
+mod MetamethodExamples
+mod CoroutineExamples
+mod LimitExamples

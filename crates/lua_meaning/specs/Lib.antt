@@ -1,0 +1,17 @@
+pub mod Values
+pub mod Builtins
+pub mod Numbers
+pub mod Tables
+pub mod Heap
+pub mod Store
+pub mod Code
+pub mod Runs
+pub mod Locals
+pub mod Jobs
+pub mod Operators
+pub mod Indexing
+pub mod Nodes
+pub mod Threads
+pub mod Calls
+pub mod Loops
+pub mod Programs
