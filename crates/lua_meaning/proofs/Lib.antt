@@ -10,3 +10,10 @@ mod OperatorExamples
 mod MetamethodExamples
 mod CoroutineExamples
 mod LimitExamples
+pub mod Counts
+pub mod NodeCounts
+pub mod OperatorCounts
+pub mod JobCounts
+pub mod Growing
+pub mod Operating
+mod LawExamples

@@ -15,3 +15,4 @@ pub mod Threads
 pub mod Calls
 pub mod Loops
 pub mod Programs
+pub mod Laws

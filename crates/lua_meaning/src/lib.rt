@@ -7,6 +7,7 @@
 mod builtin;
 mod ids;
 mod iter;
+pub mod laws;
 mod status;
 #[cfg(test)]
 mod tests;
