@@ -9,6 +9,7 @@ fn name_of(call: &Call) -> &str {
     match call {
         Call::Command(Command::Create { name }) => name.text(),
         Call::Query(Query::Exists { name }) => name.text(),
+        Call::Command(_) => "",
     }
 }
 

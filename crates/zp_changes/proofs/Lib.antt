@@ -1,1 +1,9 @@
 pub mod CreateLaw
+pub mod Replacing
+pub mod MountLaw
+pub mod UnmountLaw
+pub mod StampLaw
+pub mod SnapshotLaw
+pub mod RenameSnapshotLaw
+pub mod CloneSettings
+pub mod CloneLaw

@@ -1,7 +1,13 @@
 //! The changes of the commands: what a command that passed its check makes of the tree.
 #![tactic(auto)]
 
+mod clone;
 mod create;
+mod mount;
+mod rename_snapshot;
+mod snapshot;
+mod stamp;
+mod unmount;
 
 ghost use Rattle.std.specs.Prelude.{◌≡◌, OnOk, OnErr};
 ghost use Rattle.zp_tree.specs.WellFormed.{IsWellFormed};
@@ -31,5 +37,13 @@ pub fn apply<T: Datasets>(
     let _ = now;
     match command {
         Command::Create { name } => create::apply(alloc, tree, name, txg),
+        Command::Snapshot { name } => snapshot::apply(alloc, tree, name, txg),
+        Command::Clone { source, name } => clone::apply(alloc, tree, source, name, txg),
+        Command::Mount { name } => mount::apply(alloc, tree, name),
+        Command::Unmount { name } => unmount::apply(alloc, tree, name),
+        Command::Stamp { name, value } => stamp::apply(alloc, tree, name, *value),
+        Command::RenameSnapshot { name, old, new } => {
+            rename_snapshot::apply(alloc, tree, name, old.as_slice(), new.as_slice())
+        }
     }
 }

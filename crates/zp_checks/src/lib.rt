@@ -1,7 +1,13 @@
 //! The checks of the commands: may a command be done on this tree, and if not, why.
 #![tactic(auto)]
 
+mod clone;
 mod create;
+mod mount;
+mod rename_snapshot;
+mod snapshot;
+mod stamp;
+mod unmount;
 
 ghost use Rattle.std.specs.Prelude.{◌≡◌, IfOk};
 ghost use Rattle.zp_tree.specs.WellFormed.{IsWellFormed};
@@ -19,6 +25,14 @@ pub fn check<T: Datasets>(alloc: Global, tree: &T, command: &Command) -> Result<
 {
     match command {
         Command::Create { name } => create::check(alloc, tree, name),
+        Command::Snapshot { name } => snapshot::check(alloc, tree, name),
+        Command::Clone { source, name } => clone::check(alloc, tree, source, name),
+        Command::Mount { name } => Ok(mount::check(alloc, tree, name)),
+        Command::Unmount { name } => Ok(unmount::check(alloc, tree, name)),
+        Command::Stamp { name, .. } => Ok(stamp::check(alloc, tree, name)),
+        Command::RenameSnapshot { name, old, new } => {
+            rename_snapshot::check(alloc, tree, name, old.as_slice(), new.as_slice())
+        }
     }
 }
 

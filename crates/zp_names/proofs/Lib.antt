@@ -3,6 +3,6 @@ mod Examples
 mod FirstFaults
 mod Heads
 mod Law
-mod Marks
+pub mod Marks
 mod Places
 mod Rests

@@ -1,5 +1,5 @@
 -- What a name is made of.
-use Rattle.std.specs.Prelude.{ℕ, ◌==◌, ◌&&◌, Bool, nat_eq, not, if◌then◌else◌, List, [], ◌∷◌, ◌++◌, Option, Some, None, find}
+use Rattle.std.specs.Prelude.{ℕ, ◌==◌, ◌&&◌, Bool, true, false, nat_eq, not, if◌then◌else◌, List, [], ◌∷◌, ◌++◌, Option, Some, None, find}
 use Rattle.std.specs.List.{before_first, before_last, list_any, starts_with}
 use Rattle.zp_names.specs.declared.form.Form.{Form}
 use Rattle.zp_names.specs.declared.form.Form.TheVariants as form
@@ -14,10 +14,23 @@ form_by (Some b) = if b == 64 then form.Snap else form.Bookmark
 abbrev pub form_of : List ℕ → Form
 form_of t = form_by (find is_mark t)
 
+abbrev pub is_snapshot_form : Form → Bool
+is_snapshot_form form.Head = false
+is_snapshot_form form.Snap = true
+is_snapshot_form form.Bookmark = false
+
+-- the name of a snapshot
+abbrev pub is_snapshot_name : List ℕ → Bool
+is_snapshot_name t = is_snapshot_form (form_of t)
+
+-- the full name of a dataset's snapshot
+abbrev pub snapshot_name : List ℕ → List ℕ → List ℕ
+snapshot_name head short = head ++ (64 ∷ short)
+
 -- a name of this form, from its head and its short name
 abbrev pub written : Form → List ℕ → List ℕ → List ℕ
 written form.Head head short = head
-written form.Snap head short = head ++ (64 ∷ short)
+written form.Snap head short = snapshot_name head short
 written form.Bookmark head short = head ++ (35 ∷ short)
 
 -- the first part: the pool

@@ -1,6 +1,6 @@
 -- Which texts are names of datasets, snapshots and bookmarks: the component naming rules of zfs(8) and
 -- zfs_namecheck.c of OpenZFS. That a part may also be `.` or `..` is this project's own choice.
-use Rattle.std.specs.Prelude.{ℕ, ◌==◌, ◌&&◌, ◌||◌, Bool, false, nat_le, List, [], ◌∷◌, length, find, is_none}
+use Rattle.std.specs.Prelude.{ℕ, ◌==◌, ◌&&◌, ◌||◌, Bool, false, nat_le, List, [], ◌∷◌, length, find, Option, Some, None, is_none, if◌then◌else◌}
 use Rattle.std.specs.Char.{is_ascii_alphabetic, is_ascii_alphanumeric}
 use Rattle.std.specs.List.{before_first, after_first, list_all, slice_split}
 
@@ -57,6 +57,10 @@ is_joined t = list_all is_part (parts_of t) && (is_head t || is_valid_short (sho
 -- a name: joined parts of which the first begins with a letter, at most 255 bytes and 50 parts
 unfoldable pub is_valid_name : List ℕ → Bool
 is_valid_name t = begins_with_letter t && is_joined t && nat_le (length t) 255 && nat_le (length (parts_of t)) 50
+
+-- the text as a name, where it is one
+abbrev pub as_name : List ℕ → Option (List ℕ)
+as_name t = if is_valid_name t then Some t else None
 
 -- a valid name of a dataset
 abbrev pub is_valid_head : List ℕ → Bool

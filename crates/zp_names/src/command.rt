@@ -2,15 +2,27 @@
 
 ghost use Rattle.std.specs.Prelude.{◌≡◌, IfOk};
 
-use crate::Name;
+use crate::{Bytes, Name};
 use std::alloc::Global;
 use zc_io::NoMemory;
 
 /// A change that is asked for.
 #[derive(Debug, Drop)]
 pub enum Command {
-    /// Make a filesystem of this name, as `zfs create` does.
+    /// Make a filesystem of this name: zfs-create(8).
     Create { name: Name },
+    /// Take a snapshot of this name: zfs-snapshot(8).
+    Snapshot { name: Name },
+    /// Make a clone of this name from a snapshot: zfs-clone(8).
+    Clone { source: Name, name: Name },
+    /// Mount this dataset: zfs-mount(8). Only a flag is set.
+    Mount { name: Name },
+    /// Unmount this dataset: zfs-unmount(8). Only a flag is taken away.
+    Unmount { name: Name },
+    /// Write a number that stands for the content of this dataset.
+    Stamp { name: Name, value: u64 },
+    /// Rename a snapshot of this dataset, from one short name to another: zfs-rename(8).
+    RenameSnapshot { name: Name, old: Bytes, new: Bytes },
 }
 
 /// A question, which changes nothing.
@@ -28,6 +40,28 @@ impl Command {
         match self {
             Command::Create { name } => Ok(Command::Create {
                 name: name.copy(alloc)?,
+            }),
+            Command::Snapshot { name } => Ok(Command::Snapshot {
+                name: name.copy(alloc)?,
+            }),
+            Command::Clone { source, name } => Ok(Command::Clone {
+                source: source.copy(alloc)?,
+                name: name.copy(alloc)?,
+            }),
+            Command::Mount { name } => Ok(Command::Mount {
+                name: name.copy(alloc)?,
+            }),
+            Command::Unmount { name } => Ok(Command::Unmount {
+                name: name.copy(alloc)?,
+            }),
+            Command::Stamp { name, value } => Ok(Command::Stamp {
+                name: name.copy(alloc)?,
+                value: *value,
+            }),
+            Command::RenameSnapshot { name, old, new } => Ok(Command::RenameSnapshot {
+                name: name.copy(alloc)?,
+                old: old.copy(alloc)?,
+                new: new.copy(alloc)?,
             }),
         }
     }

@@ -3,9 +3,9 @@
 ghost use Rattle.std.specs.Prelude.{◌≡◌, ◌<◌, ◌≤◌, ◌∷◌, ◌++◌, [], nat_eq, length, take, drop, false, IsTrue, IfOk, IfErr, OnOk, IfSome, ◌||◌, MatchOption, option_map, is_none, find, slice_get, slice_index, string_bytes};
 ghost use Rattle.std.specs.List.{before_last, list_any, starts_with};
 ghost use Rattle.std.specs.Str.{IsAscii};
-ghost use Rattle.zp_names.specs.Names.{is_slash, is_mark, is_separator, is_head, is_valid_name, is_valid_head, is_valid_short, head_of, short_of};
+ghost use Rattle.zp_names.specs.Names.{is_slash, is_mark, is_separator, is_head, is_valid_name, is_valid_head, is_valid_short, as_name, head_of, short_of};
 ghost use Rattle.zp_names.specs.NameFaults.{name_fault, IsRefusal};
-ghost use Rattle.zp_names.specs.NameParts.{form_of, written, pool_of, is_pool, parent_of, is_below};
+ghost use Rattle.zp_names.specs.NameParts.{form_of, written, pool_of, is_pool, parent_of, is_below, snapshot_name};
 
 use crate::scan::{is_separator, name_fault, place_of_mark, place_of_separator};
 use crate::{BadName, Form};
@@ -155,6 +155,20 @@ impl Name {
         match self.parent() {
             None => Ok(None),
             Some(parent) => Ok(Some(name_of_head(alloc, parent)?)),
+        }
+    }
+
+    /// The name of the snapshot of this dataset that has this short name. `None` where that text is no valid name.
+    pub fn snapshot_name(&self, alloc: Global, short: &[u8]) -> Result<Option<Name>, NoMemory>
+        ensures { IfOk result (λ name. name ≡ as_name (snapshot_name self.now short.now)) }
+    {
+        let mut text = Vec::from_slice(alloc, self.text.as_bytes())?;
+        text.push(b'@')?;
+        text.extend_from_slice(short)?;
+        match Name::read(alloc, text.as_slice()) {
+            Ok(name) => Ok(Some(name)),
+            Err(BadName::NoMemory) => Err(NoMemory),
+            Err(_) => Ok(None),
         }
     }
 

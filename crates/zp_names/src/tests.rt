@@ -107,11 +107,19 @@ fn parts_of_names(rt: HostRuntime) -> Result<(), Fail> {
 #[test]
 fn copies(rt: HostRuntime) -> Result<(), Fail> {
     let alloc = rt.alloc();
-    let create = Command::Create {
+    let rename = Command::RenameSnapshot {
         name: Name::read(alloc, b"tank/a")?,
+        old: Bytes::from_bytes(alloc, b"x")?,
+        new: Bytes::from_bytes(alloc, b"y")?,
     };
-    let Command::Create { name } = create.copy(alloc)?;
-    assert_eq!(rt; name.copy(alloc)?.text(), "tank/a");
+    let Command::RenameSnapshot { name, old, new } = rename.copy(alloc)? else {
+        return Err(Fail::from("another command"));
+    };
+    assert!(rt; old.as_slice() == b"x".as_slice());
+    assert!(rt; new.as_slice() == b"y".as_slice());
+    let snapshot = name.snapshot_name(alloc, new.as_slice())?.ok_or("no name")?;
+    assert_eq!(rt; snapshot.text(), "tank/a@y");
+    assert!(rt; name.snapshot_name(alloc, b"")?.is_none());
     let Query::Exists { name } = (Query::Exists { name }).copy(alloc)?;
     let mut details = Vec::new(alloc);
     details.push(Bytes::from_bytes(alloc, name.text().as_bytes())?)?;

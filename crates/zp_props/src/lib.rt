@@ -3,7 +3,7 @@
 
 mod setting;
 
-pub use setting::{PropValue, Setting, Settings, copy_settings};
+pub use setting::{PropValue, Setting, Settings, copy_settings, setting_named, volsize};
 
 #[cfg(test)]
 mod tests;

@@ -1,6 +1,7 @@
 //! Settings: the properties that a dataset holds itself.
 
-ghost use Rattle.std.specs.Prelude.{◌≡◌, IfOk};
+ghost use Rattle.std.specs.Prelude.{◌≡◌, IfOk, option_map};
+ghost use Rattle.zp_props.specs.Settings.{setting_named, volsize};
 
 use std::alloc::Global;
 use zc_io::NoMemory;
@@ -49,6 +50,22 @@ impl Setting {
             value: self.value.copy(alloc)?,
         })
     }
+}
+
+/// The setting of this name; none where the name is not set.
+pub fn setting_named<'a>(settings: &'a [Setting], name: &[u8]) -> Option<&'a Setting>
+    ensures { option_map (λ s. s.now) result ≡ setting_named name.now settings.now }
+{
+    settings
+        .iter()
+        .find(|setting| setting.name.as_slice() == name)
+}
+
+/// The size of a volume, where it is set: zfsprops(7), volsize.
+pub fn volsize(settings: &[Setting]) -> Option<&Setting>
+    ensures { option_map (λ s. s.now) result ≡ setting_named volsize settings.now }
+{
+    setting_named(settings, b"volsize")
 }
 
 /// The same settings once more.

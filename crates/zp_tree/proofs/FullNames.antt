@@ -24,10 +24,10 @@ marked (b ∷ a) s x m = later (is_mark b) (find is_mark (a ++ x ∷ s)) (marked
 no-head : (n a s : List ℕ) (x : ℕ) → is_mark x ≡ true → is_head n ≡ true → n ≡ a ++ x ∷ s → ⊥
 no-head n a s x m h e = true≢false (sym h ∙ ap is_head e ∙ marked a s x m)
 
-record Parts (a b s t : List ℕ) (x y : ℕ) : Type 0 where
-  front : a ≡ b
-  mark : x ≡ y
-  back : s ≡ t
+pub record Parts (a b s t : List ℕ) (x y : ℕ) : Type 0 where
+  pub front : a ≡ b
+  pub mark : x ≡ y
+  pub back : s ≡ t
 
 unmarked : (b : ℕ) (a : List ℕ) → is_head (b ∷ a) ≡ true → (is_mark b ≡ false) × (is_head a ≡ true)
 unmarked b a h = go (is_mark b) (find is_mark a) h
@@ -37,7 +37,7 @@ unmarked b a h = go (is_mark b) (find is_mark a) h
     go false o e = (refl, e)
 
 -- a text falls at its first mark in one way
-parts : (a b s t : List ℕ) (x y : ℕ) → is_mark x ≡ true → is_mark y ≡ true → is_head a ≡ true → is_head b ≡ true → a ++ x ∷ s ≡ b ++ y ∷ t → Parts a b s t x y
+pub parts : (a b s t : List ℕ) (x y : ℕ) → is_mark x ≡ true → is_mark y ≡ true → is_head a ≡ true → is_head b ≡ true → a ++ x ∷ s ≡ b ++ y ∷ t → Parts a b s t x y
 parts [] [] s t x y m n h k e = record { front = refl; mark = cc; back = cc }
 parts [] (d ∷ b) s t x y m n h k e = let is : x ≡ d = cc in let none : is_mark x ≡ false = ap is_mark is ∙ (unmarked d b k).0 in cc
 parts (c ∷ a) [] s t x y m n h k e = let is : c ≡ y = cc in let none : is_mark y ≡ false = ap is_mark (sym is) ∙ (unmarked c a h).0 in cc
@@ -49,11 +49,11 @@ parts (c ∷ a) (d ∷ b) s t x y m n h k e =
 
 -- ---- the names of owners
 
-record Owned (t : Tree) (owner : ℕ) (n s : List ℕ) (x : ℕ) : Type 0 where
-  head : Head
-  there : head_in (at t.records) owner ≡ Some head
-  form : is_head head.name ≡ true
-  is : head.name ++ x ∷ s ≡ n
+pub record Owned (t : Tree) (owner : ℕ) (n s : List ℕ) (x : ℕ) : Type 0 where
+  pub head : Head
+  pub there : head_in (at t.records) owner ≡ Some head
+  pub form : is_head head.name ≡ true
+  pub is : head.name ++ x ∷ s ≡ n
 
 head-form : (t : Tree) (i : ℕ) (d : Head) → IsWellFormed t → head_in (at t.records) i ≡ Some d → is_head d.name ≡ true
 head-form t i d w e = go (at t.records i) refl e
@@ -67,7 +67,7 @@ head-form t i d w e = go (at t.records i) refl e
     go None f g = cc
     go (Some r) f g = let h : IsHead d = w.agrees.records i (item.Head d) (f ∙ ap Some (is-head r d g)) in h.form
 
-owned : (t : Tree) (owner : ℕ) (n s : List ℕ) (x : ℕ) → IsWellFormed t → option_map (λ m. m ++ x ∷ s) (head_name t.records owner) ≡ Some n → Owned t owner n s x
+pub owned : (t : Tree) (owner : ℕ) (n s : List ℕ) (x : ℕ) → IsWellFormed t → option_map (λ m. m ++ x ∷ s) (head_name t.records owner) ≡ Some n → Owned t owner n s x
 owned t owner n s x w e = go (head_in (at t.records) owner) refl e
   where
     go : (o : Option Head) → head_in (at t.records) owner ≡ o → option_map (λ m. m ++ x ∷ s) (option_map (λ (d : Head). d.name) o) ≡ Some n → Owned t owner n s x
@@ -113,7 +113,7 @@ names-unique t i j (item.Snap s) (item.Mark v) n w a b f g =
 names-unique t i j (item.Mark s) (item.Snap v) n w a b f g =
     let p = same t s.owner v.owner n s.short v.short 35 64 w refl refl (owned t s.owner n s.short 35 w f) (owned t v.owner n v.short 64 w g) in let apart = p.mark in cc
 
-called : (name : List ℕ) (o : Option (List ℕ)) → is_text name o ≡ true → o ≡ Some name
+pub called : (name : List ℕ) (o : Option (List ℕ)) → is_text name o ≡ true → o ≡ Some name
 called name None e = cc
 called name (Some u) e = ap Some ((bytes_eq-Decides u name).0 e)
 

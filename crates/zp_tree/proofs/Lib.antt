@@ -4,7 +4,9 @@ pub mod Rising
 pub mod Edits
 pub mod FullNames
 pub mod Adding
+pub mod Changing
 pub mod NewPoolLaw
 pub mod Clear
+pub mod Sums
 pub mod Found
 pub mod VerdictTexts

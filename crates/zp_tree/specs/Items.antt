@@ -10,3 +10,6 @@ is_volume_kind Volume = true
 
 abbrev pub is_volume : Head → Bool
 is_volume d = is_volume_kind d.kind
+
+abbrev pub is_mounted : Head → Bool
+is_mounted d = d.mounted

@@ -5,4 +5,10 @@ pub mod Rows
 pub mod Kept
 pub mod Create
 pub mod NewPool
+pub mod TakeSnapshot
+pub mod MakeClone
+pub mod Mount
+pub mod Unmount
+pub mod WriteStamp
+pub mod RenameSnapshot
 pub mod Commands

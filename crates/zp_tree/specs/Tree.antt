@@ -89,6 +89,14 @@ exists t name = is_some (named t.records name)
 abbrev pub head_named : Tree → List ℕ → Option Head
 head_named t name = option_and_then as_head (named t.records name)
 
+-- the snapshot of this name
+abbrev pub snapshot_named : Tree → List ℕ → Option Snapshot
+snapshot_named t name = option_and_then as_snapshot (named t.records name)
+
+-- the head with this id
+abbrev pub head_at : Tree → ℕ → Option Head
+head_at t i = option_and_then as_head (at t.records i)
+
 -- the head that the name would stand below
 abbrev pub parent_in : Tree → List ℕ → Option Head
 parent_in t name = option_and_then (head_named t) (parent_of name)
@@ -104,3 +112,7 @@ is_full t = nat_le most_records (length t.records) || t.next == 2 ^ 64 - 1
 -- the tree with a new record, which goes last
 abbrev pub added : Tree → Item → Tree
 added t x = record { records = t.records ++ x ∷ []; next = t.next + 1 }
+
+-- the tree with a record in the place of the one that has its id
+abbrev pub replaced : Tree → Item → Tree
+replaced t x = record t { records = put x t.records }
