@@ -9,7 +9,7 @@ use Rattle.lua_scope.specs.declared.place.Place.TheVariants as place
 use Rattle.lua_scope.specs.Labels.{labels_of, inside_of}
 use Rattle.lua_scope.specs.Walk.{walked}
 use Rattle.lua_scope.specs.Scope.{declared, first_variable, scope}
-use Rattle.lua_scope.specs.Variables.{variable_of, is_captured, captured_by, place_of}
+use Rattle.lua_scope.specs.Variables.{variable_of, is_captured, captured_by, place_of_name}
 use Rattle.lua_scope.specs.Refusals.{first_refusal}
 
 abbrev trees_behind : Trees → List Tree → Trees
@@ -122,15 +122,15 @@ first_in_text_order = refl
 abbrev shadowing : List Occurrence
 shadowing = text (Local 1 1 (x ∷ []) (these (Name 0 1 x ∷ [])) ∷ Local 3 1 (x ∷ []) (these (Name 2 1 x ∷ [])) ∷ Return 5 1 (these (Name 4 1 x ∷ [])) ∷ [])
 
-own_initializer : place_of shadowing 0 ≡ place.Global
+own_initializer : place_of_name shadowing 0 ≡ place.Global
 unfolding labels_of inside_of walked declared first_variable scope variable_of is_captured
 own_initializer = refl
 
-earlier_local : place_of shadowing 2 ≡ place.Local 0
+earlier_local : place_of_name shadowing 2 ≡ place.Local 0
 unfolding labels_of inside_of walked declared first_variable scope variable_of is_captured
 earlier_local = refl
 
-later_local : place_of shadowing 4 ≡ place.Local 1
+later_local : place_of_name shadowing 4 ≡ place.Local 1
 unfolding labels_of inside_of walked declared first_variable scope variable_of is_captured
 later_local = refl
 
@@ -138,11 +138,11 @@ later_local = refl
 abbrev repeated : List Occurrence
 repeated = text (Repeat 5 1 (block (local_x ∷ [])) (Name 6 1 x) ∷ Return 7 1 (these (Name 8 1 x ∷ [])) ∷ [])
 
-condition_sees_body : place_of repeated 6 ≡ place.Local 0
+condition_sees_body : place_of_name repeated 6 ≡ place.Local 0
 unfolding labels_of inside_of walked declared first_variable scope variable_of is_captured
 condition_sees_body = refl
 
-not_behind : place_of repeated 8 ≡ place.Global
+not_behind : place_of_name repeated 8 ≡ place.Global
 unfolding labels_of inside_of walked declared first_variable scope variable_of is_captured
 not_behind = refl
 
@@ -152,15 +152,15 @@ loop = text
     (NumFor 1 1 x (Name 0 1 x) one absent (block (Assign 2 1 (these (Name 3 1 (codes "f") ∷ [])) (these (Function 4 1 [] false (block (Assign 5 1 (these (Name 6 1 x ∷ [])) (these (Name 7 1 y ∷ [])) ∷ [])) ∷ [])) ∷ []))
     ∷ Return 8 1 (these (Name 9 1 x ∷ [])) ∷ [])
 
-loop_bound : place_of loop 0 ≡ place.Global
+loop_bound : place_of_name loop 0 ≡ place.Global
 unfolding labels_of inside_of walked declared first_variable scope variable_of is_captured
 loop_bound = refl
 
-loop_variable : place_of loop 6 ≡ place.Captured 0
+loop_variable : place_of_name loop 6 ≡ place.Captured 0
 unfolding labels_of inside_of walked declared first_variable scope variable_of is_captured
 loop_variable = refl
 
-behind_loop : place_of loop 9 ≡ place.Global
+behind_loop : place_of_name loop 9 ≡ place.Global
 unfolding labels_of inside_of walked declared first_variable scope variable_of is_captured
 behind_loop = refl
 
@@ -176,11 +176,11 @@ method = text
     (Local 5 1 (codes "b" ∷ []) (these (Function 6 1 [] false (block (Return 7 1 (these (Name 8 1 x ∷ Name 9 1 (codes "self") ∷ Name 10 1 y ∷ [])) ∷ [])) ∷ [])) ∷ [])) ∷ []))
     ∷ Return 11 1 (these (Name 12 1 x ∷ [])) ∷ [])
 
-own_self : place_of method 9 ≡ place.Captured 2
+own_self : place_of_name method 9 ≡ place.Captured 2
 unfolding labels_of inside_of walked declared first_variable scope variable_of is_captured
 own_self = refl
 
-used_outside_too : place_of method 12 ≡ place.Captured 1
+used_outside_too : place_of_name method 12 ≡ place.Captured 1
 unfolding labels_of inside_of walked declared first_variable scope variable_of is_captured
 used_outside_too = refl
 
@@ -201,7 +201,7 @@ unfolding labels_of inside_of walked declared first_variable
 named_before_inner = refl
 
 -- `local function x() return x end`: in scope in its own body
-own_body : place_of (text (LocalFunction 0 1 x (Function 1 1 [] false (block (Return 2 1 (these (Name 3 1 x ∷ [])) ∷ []))) ∷ [])) 3 ≡ place.Captured 0
+own_body : place_of_name (text (LocalFunction 0 1 x (Function 1 1 [] false (block (Return 2 1 (these (Name 3 1 x ∷ [])) ∷ []))) ∷ [])) 3 ≡ place.Captured 0
 unfolding labels_of inside_of walked declared first_variable scope variable_of is_captured
 own_body = refl
 

@@ -7,7 +7,7 @@ use Rattle.lua_scope.specs.declared.occurrence.Occurrence.{Occurrence}
 use Rattle.lua_scope.specs.declared.place.Place.{Place}
 use Rattle.lua_scope.specs.declared.occurrence.Occurrence.TheVariants as occurrence
 use Rattle.lua_scope.specs.Scope.{declared, first_variable}
-use Rattle.lua_scope.specs.Variables.{meaning, variable_of, place_of, place_by}
+use Rattle.lua_scope.specs.Variables.{meaning, variable_of, place_of_name, place_by}
 use Rattle.lua_ast.specs.Decode.{ChunkNodes}
 use Rattle.lua_ast.specs.Once.{IsEachOnce}
 use Rattle.lua_scope.specs.OfChunk.{occurrences_of}
@@ -82,14 +82,14 @@ declared_there i n whole before once m =
     ap (λ (h : List Occurrence). first_variable h i) (sym m.joined) ∙ first_there i n m.after before (subst TellsOnce (sym m.joined) once)
 
 -- of a chunk in whose tree each node stands once
-place_there : (c : ChunkNodes) (i : ℕ) → IsEachOnce c → (x : List ℕ) (before : List Occurrence) → Meets (occurrences_of c) before (occurrence.Use i x) → place_of (occurrences_of c) i ≡ place_by (occurrences_of c) (meaning before x)
+place_there : (c : ChunkNodes) (i : ℕ) → IsEachOnce c → (x : List ℕ) (before : List Occurrence) → Meets (occurrences_of c) before (occurrence.Use i x) → place_of_name (occurrences_of c) i ≡ place_by (occurrences_of c) (meaning before x)
 place_there c i each x before m = ap (place_by (occurrences_of c)) (name_there i x (occurrences_of c) before (told_once c each) m)
 
 first_variable_there : (c : ChunkNodes) (i : ℕ) → IsEachOnce c → (n : ℕ) (before : List Occurrence) → Meets (occurrences_of c) before (occurrence.Declare i n) → first_variable (occurrences_of c) i ≡ declared before
 first_variable_there c i each n before m = declared_there i n (occurrences_of c) before (told_once c each) m
 
 -- the same of an answer
-pub place_found : (place : Place) (c : ChunkNodes) (i : ℕ) → IsEachOnce c → place ≡ place_of (occurrences_of c) i
+pub place_found : (place : Place) (c : ChunkNodes) (i : ℕ) → IsEachOnce c → place ≡ place_of_name (occurrences_of c) i
     → (x : List ℕ) (before : List Occurrence) → Meets (occurrences_of c) before (occurrence.Use i x) → place ≡ place_by (occurrences_of c) (meaning before x)
 place_found place c i each is x before m = is ∙ place_there c i each x before m
 

@@ -11,7 +11,7 @@ use Rattle.lua_scope.specs.declared.load_error.LoadError.{LoadError}
 use Rattle.lua_scope.specs.declared.load_error.LoadError.TheVariants.{BreakOutside, VarargOutside}
 use Rattle.std.proofs.lemmas.List.{reverse-append}
 use Rattle.lua_scope.specs.Walk.{walked}
-use Rattle.lua_scope.specs.Scope.{ScopeState, scope, opened, closed, cut_to, entered, numbered, first_variable}
+use Rattle.lua_scope.specs.Scope.{ScopeState, scope, scope_opened, scope_closed, cut_to, entered, numbered, first_variable}
 use Rattle.lua_scope.specs.Refusals.{first_refusal, refusal_in, jump_in, jump, in_loop_of, in_loop, has_varargs_of, has_varargs, earlier}
 use Rattle.lua_scope.proofs.Plain.{ap-both, plain, plain_kind, alike}
 
@@ -56,7 +56,7 @@ length-take (suc n) [] (y ∷ ys) e = cc
 length-take (suc n) (x ∷ xs) [] e = cc
 length-take (suc n) (x ∷ xs) (y ∷ ys) e = let f : length xs ≡ length ys = omega arith in ap suc (length-take n xs ys f)
 
-same-opened : (o : ScopeKind) (a b : ScopeState) → SameState a b → SameState (opened (plain_kind o) a) (opened o b)
+same-opened : (o : ScopeKind) (a b : ScopeState) → SameState a b → SameState (scope_opened (plain_kind o) a) (scope_opened o b)
 same-opened o a b s = record {
   variables = s.variables;
   frames = ap-both (λ (fs : List Frame) (n : ℕ). fs ++ record { kind = plain_kind o; begins = n } ∷ []) s.frames s.variables ∙ sym (map-append plain_frame b.frames (record { kind = o; begins = length b.variables } ∷ []));
@@ -69,11 +69,11 @@ same-cut (Some f) a b s = record {
   frames = ap-both (λ (fs : List Frame) (n : ℕ). take (n - 1) fs) s.frames (ap length s.frames ∙ length-map plain_frame b.frames) ∙ sym (map-take plain_frame (length b.frames - 1) b.frames);
 }
 
-same-closed : (a b : ScopeState) → SameState a b → SameState (closed a) (closed b)
+same-closed : (a b : ScopeState) → SameState a b → SameState (scope_closed a) (scope_closed b)
 same-closed a b s =
     let is : slice_get a.frames (length a.frames - 1) ≡ option_map plain_frame (slice_get b.frames (length b.frames - 1)) =
     ap-both (λ (fs : List Frame) (n : ℕ). slice_get fs (n - 1)) s.frames (ap length s.frames ∙ length-map plain_frame b.frames) ∙ map-get plain_frame b.frames (length b.frames - 1) in
-    subst (λ (f : Option Frame). SameState (cut_to f a) (closed b)) (sym is) (same-cut (slice_get b.frames (length b.frames - 1)) a b s)
+    subst (λ (f : Option Frame). SameState (cut_to f a) (scope_closed b)) (sym is) (same-cut (slice_get b.frames (length b.frames - 1)) a b s)
 
 same-entered : (m n : ℕ) (names : List (List ℕ)) (a b : ScopeState) → SameState a b → SameState (entered m names a) (entered n names b)
 same-entered m n names a b s = record {

@@ -11,9 +11,9 @@ use Rattle.lua_scope.specs.declared.labels.FirstLabel.{FirstLabel}
 use Rattle.lua_scope.specs.Labels.{has_name}
 use Rattle.lua_scope.specs.Refusals.{target}
 use Rattle.lua_scope.specs.ByName.{at_name}
-use Rattle.lua_scope.specs.FirstLabels.{one_further, first_label, HasFirstLabels}
+use Rattle.lua_scope.specs.FirstLabels.{one_label_further, first_label, HasFirstLabels}
 
-some_later : (b : Bool) (f : FirstLabel) (o : Option FirstLabel) (r : Bool) → is_some o ≡ r → is_some (cond b (Some f) (option_map one_further o)) ≡ (b || r)
+some_later : (b : Bool) (f : FirstLabel) (o : Option FirstLabel) (r : Bool) → is_some o ≡ r → is_some (cond b (Some f) (option_map one_label_further o)) ≡ (b || r)
 some_later true f o r e = refl
 some_later false f None r e = e
 some_later false f (Some g) r e = e
@@ -23,13 +23,13 @@ first_tells x [] = refl
 first_tells x (l ∷ ls) = some_later (has_name x l) (record { place = 0; locals = l.locals }) (first_label x ls) (list_any (has_name x) ls) (first_tells x ls)
 
 one_more : (b c : Bool) (f new : FirstLabel) (o p : Option FirstLabel) → p ≡ option_or o (cond c (Some new) None)
-    → cond b (Some f) (option_map one_further p) ≡ option_or (cond b (Some f) (option_map one_further o)) (cond c (Some (one_further new)) None)
+    → cond b (Some f) (option_map one_label_further p) ≡ option_or (cond b (Some f) (option_map one_label_further o)) (cond c (Some (one_label_further new)) None)
 one_more true c f new o p e = refl
-one_more false true f new None p e = ap (option_map one_further) e
-one_more false false f new None p e = ap (option_map one_further) e
-one_more false c f new (Some g) p e = ap (option_map one_further) e
+one_more false true f new None p e = ap (option_map one_label_further) e
+one_more false false f new None p e = ap (option_map one_label_further) e
+one_more false c f new (Some g) p e = ap (option_map one_label_further) e
 
-first_alone : (b : Bool) (f : FirstLabel) → cond b (Some f) (option_map one_further None) ≡ option_or None (cond b (Some f) None)
+first_alone : (b : Bool) (f : FirstLabel) → cond b (Some f) (option_map one_label_further None) ≡ option_or None (cond b (Some f) None)
 first_alone true f = refl
 first_alone false f = refl
 
@@ -52,7 +52,7 @@ less_one : (i inside : ℕ) → nat_lt i (inside - 1) ≡ nat_lt (i + 1) inside
 less_one i inside = grind (arith, nat_tests)
 
 target_case : (b : Bool) (inside locals : ℕ) (t : Option ℕ) (o : Option FirstLabel) → t ≡ option_map (locals_there (inside - 1)) o
-    → cond b (Some (cond (nat_lt 0 inside) locals 0)) t ≡ option_map (locals_there inside) (cond b (Some (record { place = 0; locals = locals })) (option_map one_further o))
+    → cond b (Some (cond (nat_lt 0 inside) locals 0)) t ≡ option_map (locals_there inside) (cond b (Some (record { place = 0; locals = locals })) (option_map one_label_further o))
 target_case true inside locals t o e = refl
 target_case false inside locals t None e = e
 target_case false inside locals t (Some f) e = e ∙ ap (λ (b : Bool). Some (cond b f.locals 0)) (less_one f.place inside)

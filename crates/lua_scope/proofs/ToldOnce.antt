@@ -89,8 +89,8 @@ second i l true g h xs a = last (occurrence.SecondLabel l) refl a
 second i l false g h xs a = a
 
 -- what is no block is as an empty one
-opened : (i : ℕ) (repeats : Bool) (t : Tree) (h : List Occurrence) → Adds i h (numbers_in t) (opens repeats none ∷ h)
-opened i repeats t h = record { few = omega (arith, tells_none i (opens repeats none) h refl) }
+scope_opened : (i : ℕ) (repeats : Bool) (t : Tree) (h : List Occurrence) → Adds i h (numbers_in t) (opens repeats none ∷ h)
+scope_opened i repeats t h = record { few = omega (arith, tells_none i (opens repeats none) h refl) }
 
 -- a statement, given what its tree adds
 statement : (i : ℕ) (t : Tree) (ts : Trees) (h : List Occurrence) → ((g : List Occurrence) → Adds i g (numbers_in t) (walked g t)) → Adds i h (list_numbers ts) (stats_walked h ts) → Adds i h (list_numbers (snoc ts t)) (stats_walked h (snoc ts t))
@@ -178,33 +178,33 @@ mutual
 
   adds_body : (i : ℕ) (repeats : Bool) (t : Tree) (h : List Occurrence) → Adds i h (numbers_in t) (body_walked repeats h t)
   adds_body i repeats (Block n l stats) h = own n (first_occurrence (opens repeats stats) refl (adds_stats i stats (opens repeats stats ∷ h)))
-  adds_body i repeats (Local n l names exps) h = opened i repeats (Local n l names exps) h
-  adds_body i repeats (Assign n l targets exps) h = opened i repeats (Assign n l targets exps) h
-  adds_body i repeats (CallStat n l call) h = opened i repeats (CallStat n l call) h
-  adds_body i repeats (Do n l block) h = opened i repeats (Do n l block) h
-  adds_body i repeats (While n l test block) h = opened i repeats (While n l test block) h
-  adds_body i repeats (Repeat n l block test) h = opened i repeats (Repeat n l block test) h
-  adds_body i repeats (If n l cases otherwise) h = opened i repeats (If n l cases otherwise) h
-  adds_body i repeats (NumFor n l name first limit step block) h = opened i repeats (NumFor n l name first limit step block) h
-  adds_body i repeats (GenFor n l names exps block) h = opened i repeats (GenFor n l names exps block) h
-  adds_body i repeats (LocalFunction n l name function) h = opened i repeats (LocalFunction n l name function) h
-  adds_body i repeats (Return n l exps) h = opened i repeats (Return n l exps) h
-  adds_body i repeats (Break n l) h = opened i repeats (Break n l) h
-  adds_body i repeats (Goto n l label) h = opened i repeats (Goto n l label) h
-  adds_body i repeats (Label n l label) h = opened i repeats (Label n l label) h
-  adds_body i repeats (Const n l value) h = opened i repeats (Const n l value) h
-  adds_body i repeats (Vararg n l) h = opened i repeats (Vararg n l) h
-  adds_body i repeats (Function n l params vararg block) h = opened i repeats (Function n l params vararg block) h
-  adds_body i repeats (Name n l text) h = opened i repeats (Name n l text) h
-  adds_body i repeats (Index n l object key) h = opened i repeats (Index n l object key) h
-  adds_body i repeats (Call n l function args) h = opened i repeats (Call n l function args) h
-  adds_body i repeats (Method n l object name args) h = opened i repeats (Method n l object name args) h
-  adds_body i repeats (Binary n l op left right) h = opened i repeats (Binary n l op left right) h
-  adds_body i repeats (Logic n l op left right) h = opened i repeats (Logic n l op left right) h
-  adds_body i repeats (Unary n l op operand) h = opened i repeats (Unary n l op operand) h
-  adds_body i repeats (Paren n l inner) h = opened i repeats (Paren n l inner) h
-  adds_body i repeats (Table n l fields) h = opened i repeats (Table n l fields) h
-  adds_body i repeats Missing h = opened i repeats Missing h
+  adds_body i repeats (Local n l names exps) h = scope_opened i repeats (Local n l names exps) h
+  adds_body i repeats (Assign n l targets exps) h = scope_opened i repeats (Assign n l targets exps) h
+  adds_body i repeats (CallStat n l call) h = scope_opened i repeats (CallStat n l call) h
+  adds_body i repeats (Do n l block) h = scope_opened i repeats (Do n l block) h
+  adds_body i repeats (While n l test block) h = scope_opened i repeats (While n l test block) h
+  adds_body i repeats (Repeat n l block test) h = scope_opened i repeats (Repeat n l block test) h
+  adds_body i repeats (If n l cases otherwise) h = scope_opened i repeats (If n l cases otherwise) h
+  adds_body i repeats (NumFor n l name first limit step block) h = scope_opened i repeats (NumFor n l name first limit step block) h
+  adds_body i repeats (GenFor n l names exps block) h = scope_opened i repeats (GenFor n l names exps block) h
+  adds_body i repeats (LocalFunction n l name function) h = scope_opened i repeats (LocalFunction n l name function) h
+  adds_body i repeats (Return n l exps) h = scope_opened i repeats (Return n l exps) h
+  adds_body i repeats (Break n l) h = scope_opened i repeats (Break n l) h
+  adds_body i repeats (Goto n l label) h = scope_opened i repeats (Goto n l label) h
+  adds_body i repeats (Label n l label) h = scope_opened i repeats (Label n l label) h
+  adds_body i repeats (Const n l value) h = scope_opened i repeats (Const n l value) h
+  adds_body i repeats (Vararg n l) h = scope_opened i repeats (Vararg n l) h
+  adds_body i repeats (Function n l params vararg block) h = scope_opened i repeats (Function n l params vararg block) h
+  adds_body i repeats (Name n l text) h = scope_opened i repeats (Name n l text) h
+  adds_body i repeats (Index n l object key) h = scope_opened i repeats (Index n l object key) h
+  adds_body i repeats (Call n l function args) h = scope_opened i repeats (Call n l function args) h
+  adds_body i repeats (Method n l object name args) h = scope_opened i repeats (Method n l object name args) h
+  adds_body i repeats (Binary n l op left right) h = scope_opened i repeats (Binary n l op left right) h
+  adds_body i repeats (Logic n l op left right) h = scope_opened i repeats (Logic n l op left right) h
+  adds_body i repeats (Unary n l op operand) h = scope_opened i repeats (Unary n l op operand) h
+  adds_body i repeats (Paren n l inner) h = scope_opened i repeats (Paren n l inner) h
+  adds_body i repeats (Table n l fields) h = scope_opened i repeats (Table n l fields) h
+  adds_body i repeats Missing h = scope_opened i repeats Missing h
 
   adds_cases : (i : ℕ) (cs : Cases) (h : List Occurrence) → Adds i h (cases_numbers cs) (cases_walked h cs)
   adds_cases i no_case h = nothing i h

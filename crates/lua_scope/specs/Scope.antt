@@ -27,23 +27,23 @@ abbrev pub numbered : ℕ → List (List ℕ) → List Variable
 numbered n [] = []
 numbered n (x ∷ xs) = record { name = x; number = n } ∷ numbered (n + 1) xs
 
-abbrev pub opened : ScopeKind → ScopeState → ScopeState
-opened o s = record { variables = s.variables; frames = s.frames ++ record { kind = o; begins = length s.variables } ∷ [] }
+abbrev pub scope_opened : ScopeKind → ScopeState → ScopeState
+scope_opened o s = record { variables = s.variables; frames = s.frames ++ record { kind = o; begins = length s.variables } ∷ [] }
 
 abbrev pub cut_to : Option Frame → ScopeState → ScopeState
 cut_to None s = s
 cut_to (Some f) s = record { variables = take f.begins s.variables; frames = take (length s.frames - 1) s.frames }
 
 -- what came into scope since the last kind goes
-abbrev pub closed : ScopeState → ScopeState
-closed s = cut_to (slice_get s.frames (length s.frames - 1)) s
+abbrev pub scope_closed : ScopeState → ScopeState
+scope_closed s = cut_to (slice_get s.frames (length s.frames - 1)) s
 
 abbrev pub entered : ℕ → List (List ℕ) → ScopeState → ScopeState
 entered n names s = record { variables = s.variables ++ numbered n names; frames = s.frames }
 
 unfoldable pub scope : List Occurrence → ScopeState
 scope [] = record { variables = []; frames = [] }
-scope (occurrence.Open o ∷ seen) = opened o (scope seen)
-scope (occurrence.Close ∷ seen) = closed (scope seen)
+scope (occurrence.Open o ∷ seen) = scope_opened o (scope seen)
+scope (occurrence.Close ∷ seen) = scope_closed (scope seen)
 scope (occurrence.Enter i names ∷ seen) = entered (first_variable seen i) names (scope seen)
 scope (_ ∷ seen) = scope seen

@@ -79,5 +79,5 @@ place_by seen None = Global
 place_by seen (Some v) = if is_captured seen v then Captured v else Local v
 
 -- the place of a Name node
-abbrev pub place_of : List Occurrence → ℕ → Place
-place_of seen i = place_by seen (variable_of seen i)
+abbrev pub place_of_name : List Occurrence → ℕ → Place
+place_of_name seen i = place_by seen (variable_of seen i)

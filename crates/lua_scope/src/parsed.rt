@@ -9,7 +9,7 @@ ghost use Rattle.lua_scope.specs.OfChunk.{occurrences_of};
 ghost use Rattle.lua_scope.specs.declared.occurrence.Occurrence.{Occurrence as OccurrenceOf};
 ghost use Rattle.lua_scope.specs.declared.occurrence.Occurrence.TheVariants as occurrence;
 ghost use Rattle.lua_scope.specs.Scope.{declared, first_variable};
-ghost use Rattle.lua_scope.specs.Variables.{meaning, place_by, place_of, is_captured as is_captured_in, captured_by};
+ghost use Rattle.lua_scope.specs.Variables.{meaning, place_by, place_of_name, is_captured as is_captured_in, captured_by};
 ghost use Rattle.lua_scope.specs.Meets.{Meets};
 
 use crate::load_error::{LoadError, of_lex, of_parse};
@@ -126,7 +126,7 @@ impl Parsed {
     /// the answer is `Global`.
     pub fn place(&self, id: NodeId) -> Place
         requires { id < length self.now.chunk.nodes }
-        ensures place { result ≡ place_of (occurrences_of self.now.chunk) id }
+        ensures place { result ≡ place_of_name (occurrences_of self.now.chunk) id }
         ensures there { (name : List ℕ) (before : List OccurrenceOf) →
             Meets (occurrences_of self.now.chunk) before (occurrence.Use id name) →
             result ≡ place_by (occurrences_of self.now.chunk) (meaning before name) }

@@ -1,7 +1,7 @@
 //! What is in scope and what is open at a place of a text.
 
 ghost use Rattle.std.specs.Prelude.{◌≡◌, ◌+◌, ◌<◌, ◌^◌, [], length, reverse, IfOk};
-ghost use Rattle.lua_scope.specs.Scope.{opened, closed, entered};
+ghost use Rattle.lua_scope.specs.Scope.{scope_opened, scope_closed, entered};
 ghost use Rattle.lua_scope.specs.Variables.{variable_named};
 ghost use Rattle.lua_scope.specs.Refusals.{jump as jump_of, in_loop as in_loop_of, has_varargs as has_varargs_of, refusal_in};
 
@@ -41,7 +41,7 @@ impl Scope {
     }
 
     pub(crate) fn open(&mut self, kind: ScopeKind) -> Result<(), AllocError>
-        ensures { IfOk result (λ _. self.new ≡ opened kind self.old) }
+        ensures { IfOk result (λ _. self.new ≡ scope_opened kind self.old) }
     {
         let begins = self.variables.len();
         self.frames.push(Frame { kind, begins })?;
@@ -49,7 +49,7 @@ impl Scope {
     }
 
     pub(crate) fn close(&mut self)
-        ensures { self.new ≡ closed self.old }
+        ensures { self.new ≡ scope_closed self.old }
     {
         if let Some(frame) = self.frames.pop() {
             self.variables.truncate(frame.begins);

@@ -2,7 +2,7 @@ use Rattle.std.proofs.Common.{◌≡◌, ◌<◌, ◌∷◌, ℕ, List, length, 
 use Rattle.lua_scope.specs.declared.occurrence.Occurrence.{Occurrence}
 use Rattle.lua_scope.specs.declared.occurrence.Occurrence.TheVariants as occurrence
 use Rattle.lua_scope.specs.declared.resolver.Resolver.{Resolver as Tables}
-use Rattle.lua_scope.specs.Scope.{opened, closed, entered, first_variable, scope}
+use Rattle.lua_scope.specs.Scope.{scope_opened, scope_closed, entered, first_variable, scope}
 use Rattle.lua_scope.specs.Walking.{OccurrenceBelow}
 use Rattle.lua_scope.specs.Resolved.{Resolved}
 use Rattle.lua_scope.proofs.Resolving.{quiet_open, quiet_close, quiet_enter, quiet_goto, quiet_label, quiet_break, quiet_vararg, resolved_quiet, resolved_declare, resolved_use}
@@ -20,14 +20,14 @@ returns-in-Open c = λ n h r.
     let new : Tables = record c.args.self.now { scope = c.open.new.self }
     in at_occurrence n new h c.args.occurrence (occurrence.Open c.in-Open.kind) c.in-Open.is
     (resolved_quiet n c.args.self.now new (occurrence.Open c.in-Open.kind) h (quiet_open c.in-Open.kind h)
-    (c.in_ok-open-in-Open.ensures ∙ ap (opened c.in-Open.kind) r.scope_is) refl refl refl refl refl r)
+    (c.in_ok-open-in-Open.ensures ∙ ap (scope_opened c.in-Open.kind) r.scope_is) refl refl refl refl refl r)
 
 pub returns-in-Close : goal.returns-in-Close
 unfolding scope
 returns-in-Close c = λ n h r.
     let new : Tables = record c.args.self.now { scope = c.close.new.self }
     in at_occurrence n new h c.args.occurrence occurrence.Close c.in-Close.is
-    (resolved_quiet n c.args.self.now new occurrence.Close h (quiet_close h) (c.close.ensures ∙ ap closed r.scope_is) refl refl refl refl refl r)
+    (resolved_quiet n c.args.self.now new occurrence.Close h (quiet_close h) (c.close.ensures ∙ ap scope_closed r.scope_is) refl refl refl refl refl r)
 
 pub returns-in-Declare : goal.returns-in-Declare
 returns-in-Declare c = λ n h r.
