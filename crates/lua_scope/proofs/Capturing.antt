@@ -9,7 +9,7 @@ use Rattle.lua_scope.specs.declared.occurrence.ScopeKind.{ScopeKind}
 use Rattle.lua_scope.specs.declared.occurrence.ScopeKind.TheVariants as kind
 use Rattle.lua_scope.specs.declared.frame.Frame.{Frame}
 use Rattle.lua_scope.specs.Scope.{scope, first_variable}
-use Rattle.lua_scope.specs.Variables.{meaning, captures, is_function, captured_in, also, is_captured, place_in, with_number, with_use, with_meaning, captured_by}
+use Rattle.lua_scope.specs.Variables.{meaning, captures, is_scope_of, captured_in, also, is_captured, place_in, with_number, with_use, with_meaning, captured_by}
 use Rattle.lua_scope.specs.Uses.{UsesInside}
 use Rattle.lua_scope.proofs.Rising.{put, insert_put}
 
@@ -49,10 +49,10 @@ has_number v u ws = number_there v u ws (has u ws) refl
 -- ---- the frames around a use
 
 abbrev around : ℕ → List Frame → Bool
-around f frames = list_any (λ (frame : Frame). is_function f frame.kind) frames
+around f frames = list_any (λ (frame : Frame). is_scope_of f frame.kind) frames
 
 abbrev takes : (first : ℕ → ℕ) → ℕ → ℕ → List Frame → Bool
-takes first f u frames = list_any (λ (frame : Frame). is_function f frame.kind && captures first u frame.kind) frames
+takes first f u frames = list_any (λ (frame : Frame). is_scope_of f frame.kind && captures first u frame.kind) frames
 
 choice_there : (v u : ℕ) (ws : List ℕ) (b : Bool) → has v (if b then with_number u ws else ws) ≡ (has v ws || ((u == v) && b))
 choice_there v u ws true = has_number v u ws ∙ turned (u == v) (has v ws)
@@ -83,13 +83,13 @@ nothing_more false false = refl
 has_use : (first : ℕ → ℕ) (f v u : ℕ) (ws : List ℕ) (frames : List Frame) → has v (with_use first f u ws frames) ≡ (has v ws || ((u == v) && takes first f u frames))
 has_use first f v u ws [] = nothing_more (has v ws) (u == v)
 has_use first f v u ws (frame ∷ frames) =
-    let here : Bool = is_function f frame.kind && captures first u frame.kind in
+    let here : Bool = is_scope_of f frame.kind && captures first u frame.kind in
     has_use first f v u (if here then with_number u ws else ws) frames
     ∙ (ap (λ (b : Bool). b || ((u == v) && takes first f u frames)) (choice_there v u ws here)
     ∙ use_joined (has v ws) (u == v) here (takes first f u frames))
 
 -- where the frame is this function, its first variable decides
-one_takes : (first : ℕ → ℕ) (f u : ℕ) (o : ScopeKind) → (is_function f o && captures first u o) ≡ (is_function f o && nat_lt u (first f))
+one_takes : (first : ℕ → ℕ) (f u : ℕ) (o : ScopeKind) → (is_scope_of f o && captures first u o) ≡ (is_scope_of f o && nat_lt u (first f))
 one_takes first f u (kind.Function g vararg) = elim (eqb_tells g f) [
   | inl e ↦ ap (λ (k : ℕ). (g == f) && nat_lt u (first k)) e.1
   | inr e ↦ ap (λ (b : Bool). b && nat_lt u (first g)) e.0 ∙ sym (ap (λ (b : Bool). b && nat_lt u (first f)) e.0)
@@ -108,8 +108,8 @@ takes_around : (first : ℕ → ℕ) (f u : ℕ) (frames : List Frame) → takes
 takes_around first f u [] = refl
 takes_around first f u (frame ∷ frames) =
     ap (λ (b : Bool). b || takes first f u frames) (one_takes first f u frame.kind)
-    ∙ (ap (λ (b : Bool). (is_function f frame.kind && nat_lt u (first f)) || b) (takes_around first f u frames)
-    ∙ shared (is_function f frame.kind) (around f frames) (nat_lt u (first f)))
+    ∙ (ap (λ (b : Bool). (is_scope_of f frame.kind && nat_lt u (first f)) || b) (takes_around first f u frames)
+    ∙ shared (is_scope_of f frame.kind) (around f frames) (nat_lt u (first f)))
 
 has_used : (first : ℕ → ℕ) (f v u : ℕ) (ws : List ℕ) (frames : List Frame) → has v (with_use first f u ws frames) ≡ (has v ws || ((u == v) && (around f frames && nat_lt u (first f))))
 has_used first f v u ws frames = has_use first f v u ws frames ∙ ap (λ (b : Bool). has v ws || ((u == v) && b)) (takes_around first f u frames)
@@ -239,7 +239,7 @@ record Above (first : ℕ → ℕ) (v : ℕ) (frames : List Frame) : Type 0 wher
   inside : around of frames ≡ true
   outer : nat_lt v (first of) ≡ true
 
-one_captures : (first : ℕ → ℕ) (v : ℕ) (o : ScopeKind) → captures first v o ≡ true → (f : ℕ) × (is_function f o ≡ true) × (nat_lt v (first f) ≡ true)
+one_captures : (first : ℕ → ℕ) (v : ℕ) (o : ScopeKind) → captures first v o ≡ true → (f : ℕ) × (is_scope_of f o ≡ true) × (nat_lt v (first f) ≡ true)
 one_captures first v (kind.Function g vararg) is = (g, itself g, is)
 one_captures first v (kind.Block labels inside) is = absurd cc
 one_captures first v kind.Loop is = absurd cc
@@ -249,20 +249,20 @@ above first v [] is = absurd cc
 above first v (frame ∷ frames) is = elim (either (captures first v frame.kind) (captured_in first v frames) is) [
   | inl here ↦
       let found = one_captures first v frame.kind here in
-      record { of = found.0; inside = first_holds (is_function found.0 frame.kind) (around found.0 frames) found.1; outer = found.2 }
+      record { of = found.0; inside = first_holds (is_scope_of found.0 frame.kind) (around found.0 frames) found.1; outer = found.2 }
   | inr rest ↦
       let found = above first v frames rest in
-      record { of = found.of; inside = second_holds (is_function found.of frame.kind) (around found.of frames) found.inside; outer = found.outer }
+      record { of = found.of; inside = second_holds (is_scope_of found.of frame.kind) (around found.of frames) found.inside; outer = found.outer }
 ]
 
-it_captures : (first : ℕ → ℕ) (f v : ℕ) (o : ScopeKind) → is_function f o ≡ true → nat_lt v (first f) ≡ true → captures first v o ≡ true
+it_captures : (first : ℕ → ℕ) (f v : ℕ) (o : ScopeKind) → is_scope_of f o ≡ true → nat_lt v (first f) ≡ true → captures first v o ≡ true
 it_captures first f v (kind.Function g vararg) is outer = subst (λ (k : ℕ). nat_lt v (first k) ≡ true) (sym (equal g f is)) outer
 it_captures first f v (kind.Block labels inside) is outer = absurd cc
 it_captures first f v kind.Loop is outer = absurd cc
 
 in_frames : (first : ℕ → ℕ) (f v : ℕ) (frames : List Frame) → around f frames ≡ true → nat_lt v (first f) ≡ true → captured_in first v frames ≡ true
 in_frames first f v [] inside outer = absurd cc
-in_frames first f v (frame ∷ frames) inside outer = elim (either (is_function f frame.kind) (around f frames) inside) [
+in_frames first f v (frame ∷ frames) inside outer = elim (either (is_scope_of f frame.kind) (around f frames) inside) [
   | inl here ↦ first_holds (captures first v frame.kind) (captured_in first v frames) (it_captures first f v frame.kind here outer)
   | inr rest ↦ second_holds (captures first v frame.kind) (captured_in first v frames) (in_frames first f v frames rest outer)
 ]

@@ -11,7 +11,7 @@ use Rattle.lua_scope.specs.declared.load_error.LoadError.{LoadError}
 use Rattle.lua_scope.specs.declared.load_error.LoadError.TheVariants.{BreakOutside, VarargOutside}
 use Rattle.std.proofs.lemmas.List.{reverse-append}
 use Rattle.lua_scope.specs.Walk.{walked}
-use Rattle.lua_scope.specs.Scope.{ScopeState, scope, scope_opened, scope_closed, cut_to, entered, numbered, first_variable}
+use Rattle.lua_scope.specs.Scope.{ScopeState, scope, scope_opened, scope_closed, cut_to, entered, variables_from, first_variable}
 use Rattle.lua_scope.specs.Refusals.{first_refusal, refusal_in, jump_in, jump, in_loop_of, in_loop, has_varargs_of, has_varargs, earlier}
 use Rattle.lua_scope.proofs.Plain.{ap-both, plain, plain_kind, alike}
 
@@ -45,7 +45,7 @@ length-append : {X : Type 0} (xs ys : List X) → length (xs ++ ys) ≡ length x
 length-append [] ys = omega arith
 length-append (x ∷ xs) ys = let e : length (xs ++ ys) ≡ length xs + length ys = length-append xs ys in omega arith
 
-length-numbered : (n : ℕ) (names : List (List ℕ)) → length (numbered n names) ≡ length names
+length-numbered : (n : ℕ) (names : List (List ℕ)) → length (variables_from n names) ≡ length names
 length-numbered n [] = refl
 length-numbered n (x ∷ xs) = ap suc (length-numbered (n + 1) xs)
 
@@ -77,7 +77,7 @@ same-closed a b s =
 
 same-entered : (m n : ℕ) (names : List (List ℕ)) (a b : ScopeState) → SameState a b → SameState (entered m names a) (entered n names b)
 same-entered m n names a b s = record {
-  variables = length-append a.variables (numbered m names) ∙ ap-both (λ (x y : ℕ). x + y) s.variables (length-numbered m names ∙ sym (length-numbered n names)) ∙ sym (length-append b.variables (numbered n names));
+  variables = length-append a.variables (variables_from m names) ∙ ap-both (λ (x y : ℕ). x + y) s.variables (length-numbered m names ∙ sym (length-numbered n names)) ∙ sym (length-append b.variables (variables_from n names));
   frames = s.frames;
 }
 

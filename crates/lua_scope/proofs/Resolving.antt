@@ -12,7 +12,7 @@ use Rattle.lua_scope.specs.declared.frame.Frame.{Frame}
 use Rattle.lua_scope.specs.declared.numbers.Numbers.{Numbers}
 use Rattle.lua_scope.specs.declared.resolver.Resolver.{Resolver}
 use Rattle.lua_scope.specs.Scope.{ScopeState, declared, first_variable, scope}
-use Rattle.lua_scope.specs.Variables.{variable_named, meaning, variable_of, captures, is_function, captured_in, also, is_captured, with_number, with_use, with_meaning, captured_by}
+use Rattle.lua_scope.specs.Variables.{variable_named, meaning, variable_of, captures, is_scope_of, captured_in, also, is_captured, with_number, with_use, with_meaning, captured_by}
 use Rattle.lua_scope.specs.Resolved.{Resolved}
 
 -- An occurrence that changes no table.
@@ -109,8 +109,8 @@ module _ (f g : ℕ → ℕ) (same : (i : ℕ) → f i ≡ g i) where
   same_with_use : (i v : ℕ) (vs : List ℕ) (frames : List Frame) → with_use f i v vs frames ≡ with_use g i v vs frames
   same_with_use i v vs [] = refl
   same_with_use i v vs (frame ∷ frames) =
-      ap (λ (b : Bool). with_use f i v (if is_function i frame.kind && b then with_number v vs else vs) frames) (same_captures v frame.kind)
-      ∙ same_with_use i v (if is_function i frame.kind && captures g v frame.kind then with_number v vs else vs) frames
+      ap (λ (b : Bool). with_use f i v (if is_scope_of i frame.kind && b then with_number v vs else vs) frames) (same_captures v frame.kind)
+      ∙ same_with_use i v (if is_scope_of i frame.kind && captures g v frame.kind then with_number v vs else vs) frames
 
   same_with_meaning : (i : ℕ) (o : Option ℕ) (vs : List ℕ) (frames : List Frame) → with_meaning f i o vs frames ≡ with_meaning g i o vs frames
   same_with_meaning i None vs frames = refl

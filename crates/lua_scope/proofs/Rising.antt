@@ -8,7 +8,7 @@ use Rattle.lua_scope.specs.declared.occurrence.Occurrence.{Occurrence}
 use Rattle.lua_scope.specs.declared.occurrence.Occurrence.TheVariants as occurrence
 use Rattle.lua_scope.specs.declared.frame.Frame.{Frame}
 use Rattle.lua_scope.specs.Scope.{scope, first_variable}
-use Rattle.lua_scope.specs.Variables.{meaning, captures, is_function, place_in, with_number, with_use, with_meaning, captured_by}
+use Rattle.lua_scope.specs.Variables.{meaning, captures, is_scope_of, place_in, with_number, with_use, with_meaning, captured_by}
 
 abbrev pub put : ℕ → List ℕ → List ℕ
 put v [] = v ∷ []
@@ -76,7 +76,7 @@ choice_rises v ws false r = r
 with_use_rises : (first : ℕ → ℕ) (f v : ℕ) (ws : List ℕ) (frames : List Frame) → Rises ws → Rises (with_use first f v ws frames)
 with_use_rises first f v ws [] r = r
 with_use_rises first f v ws (frame ∷ frames) r =
-    with_use_rises first f v (if is_function f frame.kind && captures first v frame.kind then with_number v ws else ws) frames (choice_rises v ws (is_function f frame.kind && captures first v frame.kind) r)
+    with_use_rises first f v (if is_scope_of f frame.kind && captures first v frame.kind then with_number v ws else ws) frames (choice_rises v ws (is_scope_of f frame.kind && captures first v frame.kind) r)
 
 with_meaning_rises : (first : ℕ → ℕ) (f : ℕ) (o : Option ℕ) (ws : List ℕ) (frames : List Frame) → Rises ws → Rises (with_meaning first f o ws frames)
 with_meaning_rises first f None ws frames r = r

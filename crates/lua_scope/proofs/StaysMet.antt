@@ -4,7 +4,7 @@ use Rattle.std.proofs.Common.{ap}
 use Rattle.lua_ast.specs.Tree.{Tree, Block, Local, Assign, CallStat, Do, While, Repeat, If, NumFor, GenFor, LocalFunction, Return, Break, Goto, Label, Const, Vararg, Function, Name, Index, Call, Method, Binary, Logic, Unary, Paren, Table, Missing, Trees, none, snoc, Cases, no_case, case, Maybe, absent, present, Fields, no_field, item, named, keyed}
 use Rattle.lua_scope.specs.declared.occurrence.Occurrence.{Occurrence}
 use Rattle.lua_scope.specs.declared.occurrence.Occurrence.TheVariants as occurrence
-use Rattle.lua_scope.specs.Labels.{is_label}
+use Rattle.lua_scope.specs.Labels.{has_label}
 use Rattle.lua_scope.specs.Walk.{walked, list_walked, stats_walked, body_walked, cases_walked, maybe_walked, fields_walked}
 use Rattle.lua_scope.specs.Meets.{Meets}
 
@@ -28,7 +28,7 @@ stays_labelled l false m = m
 -- what is met behind the tree of a statement is met behind the statement: a label's tree adds nothing
 pub met_statement : {e : Occurrence} (h : List Occurrence) (t : Tree) (ts : Trees) → Met e (walked (stats_walked h ts) t) → Met e (stats_walked h (snoc ts t))
 unfolding walked
-met_statement h (Label n l label) ts m = stays_labelled l (is_label label ts) m
+met_statement h (Label n l label) ts m = stays_labelled l (has_label label ts) m
 met_statement h t ts m = m
 
 mutual

@@ -11,7 +11,7 @@ use Rattle.lua_ast.specs.Once.{numbers_in, list_numbers, cases_numbers, maybe_nu
 use Rattle.lua_scope.specs.declared.occurrence.Occurrence.{Occurrence}
 use Rattle.lua_scope.specs.declared.occurrence.Occurrence.TheVariants as occurrence
 use Rattle.lua_scope.specs.declared.occurrence.ScopeKind.TheVariants as kind
-use Rattle.lua_scope.specs.Labels.{is_label}
+use Rattle.lua_scope.specs.Labels.{has_label}
 use Rattle.lua_scope.specs.Walk.{opens, label_in, walked, list_walked, stats_walked, body_walked, cases_walked, maybe_walked, fields_walked}
 use Rattle.lua_scope.specs.OfChunk.{occurrences_of}
 use Rattle.lua_scope.proofs.TellsOnce.{node_of, nodes_of, same_number, same_itself, TellsOnce}
@@ -109,7 +109,7 @@ statement i (LocalFunction n l name function) ts h whole a = both a (whole (stat
 statement i (Return n l exps) ts h whole a = both a (whole (stats_walked h ts))
 statement i (Break n l) ts h whole a = both a (whole (stats_walked h ts))
 statement i (Goto n l label) ts h whole a = both a (whole (stats_walked h ts))
-statement i (Label n l label) ts h whole a = both (second i l (is_label label ts) h (stats_walked h ts) (list_numbers ts) a) (own n (nothing i (label_in l label ts (stats_walked h ts))))
+statement i (Label n l label) ts h whole a = both (second i l (has_label label ts) h (stats_walked h ts) (list_numbers ts) a) (own n (nothing i (label_in l label ts (stats_walked h ts))))
 statement i (Const n l value) ts h whole a = both a (whole (stats_walked h ts))
 statement i (Vararg n l) ts h whole a = both a (whole (stats_walked h ts))
 statement i (Function n l params vararg block) ts h whole a = both a (whole (stats_walked h ts))

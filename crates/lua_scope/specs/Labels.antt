@@ -10,9 +10,9 @@ locals_at (Local _ _ names _) = length names
 locals_at (LocalFunction _ _ _ _) = 1
 locals_at _ = 0
 
-abbrev pub locals_of : Trees → ℕ
-locals_of none = 0
-locals_of (snoc ts t) = locals_of ts + locals_at t
+abbrev pub locals_declared : Trees → ℕ
+locals_declared none = 0
+locals_declared (snoc ts t) = locals_declared ts + locals_at t
 
 abbrev pub has_name : List ℕ → BlockLabel → Bool
 has_name x l = bytes_eq l.name x
@@ -24,7 +24,7 @@ with_labels before locals _ = before
 
 unfoldable pub labels_of : Trees → List BlockLabel
 labels_of none = []
-labels_of (snoc ts t) = with_labels (labels_of ts) (locals_of ts) t
+labels_of (snoc ts t) = with_labels (labels_of ts) (locals_declared ts) t
 
 -- A label is a void statement, as `;` is, which is no node. How many labels have other statements behind them.
 abbrev pub inside_with : ℕ → ℕ → Tree → ℕ
@@ -36,5 +36,5 @@ inside_of none = 0
 inside_of (snoc ts t) = inside_with (inside_of ts) (length (labels_of ts)) t
 
 -- a label of this name is among these statements
-abbrev pub is_label : List ℕ → Trees → Bool
-is_label x ts = list_any (has_name x) (labels_of ts)
+abbrev pub has_label : List ℕ → Trees → Bool
+has_label x ts = list_any (has_name x) (labels_of ts)

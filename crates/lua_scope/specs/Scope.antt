@@ -23,9 +23,9 @@ first_variable [] i = 0
 first_variable (occurrence.Declare j _ ∷ seen) i = if j == i then declared seen else first_variable seen i
 first_variable (_ ∷ seen) i = first_variable seen i
 
-abbrev pub numbered : ℕ → List (List ℕ) → List Variable
-numbered n [] = []
-numbered n (x ∷ xs) = record { name = x; number = n } ∷ numbered (n + 1) xs
+abbrev pub variables_from : ℕ → List (List ℕ) → List Variable
+variables_from n [] = []
+variables_from n (x ∷ xs) = record { name = x; number = n } ∷ variables_from (n + 1) xs
 
 abbrev pub scope_opened : ScopeKind → ScopeState → ScopeState
 scope_opened o s = record { variables = s.variables; frames = s.frames ++ record { kind = o; begins = length s.variables } ∷ [] }
@@ -39,7 +39,7 @@ abbrev pub scope_closed : ScopeState → ScopeState
 scope_closed s = cut_to (slice_get s.frames (length s.frames - 1)) s
 
 abbrev pub entered : ℕ → List (List ℕ) → ScopeState → ScopeState
-entered n names s = record { variables = s.variables ++ numbered n names; frames = s.frames }
+entered n names s = record { variables = s.variables ++ variables_from n names; frames = s.frames }
 
 unfoldable pub scope : List Occurrence → ScopeState
 scope [] = record { variables = []; frames = [] }

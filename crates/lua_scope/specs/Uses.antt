@@ -5,7 +5,7 @@ use Rattle.lua_scope.specs.declared.occurrence.Occurrence.{Occurrence}
 use Rattle.lua_scope.specs.declared.occurrence.Occurrence.TheVariants as occurrence
 use Rattle.lua_scope.specs.declared.frame.Frame.{Frame}
 use Rattle.lua_scope.specs.Scope.{scope, first_variable}
-use Rattle.lua_scope.specs.Variables.{meaning, is_function}
+use Rattle.lua_scope.specs.Variables.{meaning, is_scope_of}
 use Rattle.lua_scope.specs.Meets.{Meets}
 
 -- a Name inside the function means the variable, which was named before the function's own
@@ -15,5 +15,5 @@ pub record UsesInside (whole : List Occurrence) (f v : ℕ) : Type 0 where
   pub before : List Occurrence
   pub met : Meets whole before (occurrence.Use node name)
   pub means : meaning before name ≡ Some v
-  pub inside : list_any (λ (frame : Frame). is_function f frame.kind) (scope before).frames ≡ true
+  pub inside : list_any (λ (frame : Frame). is_scope_of f frame.kind) (scope before).frames ≡ true
   pub outer : v < first_variable before f

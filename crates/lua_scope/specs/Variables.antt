@@ -33,9 +33,9 @@ abbrev pub captures : (first : ℕ → ℕ) → ℕ → ScopeKind → Bool
 captures first v (kind.Function f _) = nat_lt v (first f)
 captures first v _ = false
 
-abbrev pub is_function : ℕ → ScopeKind → Bool
-is_function f (kind.Function g _) = g == f
-is_function f _ = false
+abbrev pub is_scope_of : ℕ → ScopeKind → Bool
+is_scope_of f (kind.Function g _) = g == f
+is_scope_of f _ = false
 
 -- some function around captures the variable
 abbrev pub captured_in : (first : ℕ → ℕ) → ℕ → List Frame → Bool
@@ -62,7 +62,7 @@ with_number v ws = if list_any (λ w. w == v) ws then ws else insert ws (place_i
 -- what a function captures, with a use of a variable inside these frames: each of them that is this function and captures the variable has it
 abbrev pub with_use : (first : ℕ → ℕ) → ℕ → ℕ → List ℕ → List Frame → List ℕ
 with_use first f v vs [] = vs
-with_use first f v vs (frame ∷ frames) = with_use first f v (if is_function f frame.kind && captures first v frame.kind then with_number v vs else vs) frames
+with_use first f v vs (frame ∷ frames) = with_use first f v (if is_scope_of f frame.kind && captures first v frame.kind then with_number v vs else vs) frames
 
 abbrev pub with_meaning : (first : ℕ → ℕ) → ℕ → Option ℕ → List ℕ → List Frame → List ℕ
 with_meaning first f None vs frames = vs

@@ -5,14 +5,14 @@ use Rattle.lua_ast.specs.Tree.{Tree, Block, Local, Assign, CallStat, Do, While, 
 use Rattle.lua_scope.specs.declared.occurrence.Occurrence.{Occurrence}
 use Rattle.lua_scope.specs.declared.occurrence.Occurrence.TheVariants as occurrence
 use Rattle.lua_scope.specs.declared.occurrence.ScopeKind.TheVariants as kind
-use Rattle.lua_scope.specs.Labels.{labels_of, inside_of, is_label}
+use Rattle.lua_scope.specs.Labels.{labels_of, inside_of, has_label}
 
 -- A block opens with its labels. In the body of a repeat, whose locals its condition sees, no label lies outside the locals.
 abbrev pub opens : (repeats : Bool) → Trees → Occurrence
 opens repeats stats = occurrence.Open (kind.Block (labels_of stats) (if repeats then length (labels_of stats) else inside_of stats))
 
 abbrev pub label_in : ℕ → List ℕ → Trees → List Occurrence → List Occurrence
-label_in l x before seen = if is_label x before then occurrence.SecondLabel l ∷ seen else seen
+label_in l x before seen = if has_label x before then occurrence.SecondLabel l ∷ seen else seen
 
 unfoldable mutual
   -- what a walk has seen, with a further tree walked through

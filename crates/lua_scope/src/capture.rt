@@ -1,7 +1,7 @@
 //! Which functions capture a variable.
 
 ghost use Rattle.std.specs.Prelude.{◌≡◌, ◌<◌, [], ℕ, length, IfOk, IfSome, slice_index_or, is_some, ◌==◌, ◌&&◌, if◌then◌else◌};
-ghost use Rattle.lua_scope.specs.Variables.{captures, captured_in, is_function, with_number, with_use};
+ghost use Rattle.lua_scope.specs.Variables.{captures, captured_in, is_scope_of, with_number, with_use};
 
 use crate::frame::Frame;
 use crate::numbers::Numbers;
@@ -13,7 +13,7 @@ use std::alloc::AllocError;
 /// of its first variable.
 fn capturing(frame: &Frame, first: &[u32], variable: u32) -> Option<NodeId>
     ensures captures { captures (λ (i : ℕ). slice_index_or first.now i 0) variable frame.now.kind ≡ is_some result }
-    ensures function { IfSome result (λ node. (f : ℕ) → is_function f frame.now.kind ≡ (node == f)) }
+    ensures function { IfSome result (λ node. (f : ℕ) → is_scope_of f frame.now.kind ≡ (node == f)) }
 {
     match &frame.kind {
         ScopeKind::Function { node, .. } => {
@@ -37,7 +37,7 @@ fn capture_in(
     ensures len { length captured.new.items ≡ length captured.old.items }
     ensures each { IfOk result (λ _. (f : ℕ) → f < length captured.old.items →
         slice_index_or captured.new.items f []
-        ≡ (if is_function f frame.now.kind
+        ≡ (if is_scope_of f frame.now.kind
         && captures (λ (i : ℕ). slice_index_or first.now i 0) variable frame.now.kind
         then with_number variable (slice_index_or captured.old.items f [])
         else slice_index_or captured.old.items f [])) }
