@@ -19,7 +19,7 @@ use Rattle.lua_meaning.specs.Runs.{Run, go, put_by, put, new_table, new_closure,
 use Rattle.lua_meaning.specs.Locals.{declare_by, declare_all, with_local}
 use Rattle.lua_meaning.specs.Jobs.{Again, Job, Apply, Look, Put}
 use Rattle.lua_meaning.specs.Operators.{Op, OpAnswer, Done, Meta, Raise, Stopped, Texts, texts, not_texts, two_texts, either, event, first_without, done, op_fails_on, fails_compare, op_charge, op_ticks, op_fails, by_meta_or, worked, arith as arith_op, concat, negative, less as less_op, less_or_same, equal, common, own_length, len, told, negated_if, binary_op, unary_op, by_meta, answered_op, operate}
-use Rattle.lua_meaning.specs.Indexing.{look, look_in, look_by, look_further, string_table, put_at, put_over, put_by as put_else, put_further}
+use Rattle.lua_meaning.specs.Indexing.{look, look_in, look_by, look_further, string_table, put_at, put_over, put_else, put_further}
 use Rattle.lua_meaning.specs.Nodes.{Target, ToLocal, ToCell, ToGlobal, ToEntry, Nowhere, store_one, eval}
 use Rattle.lua_ast.specs.Tree.{Tree}
 use Rattle.lua_meaning.proofs.Counts.{Plan, Counted, Runs, less_counted, ticked_counted, charged_counted, tick_fed, charge_fed, fails_fed, after_fed}

@@ -29,14 +29,14 @@ from_label x none = None
 from_label x (snoc ts t) = label_next x (from_label x ts) t
 
 -- how many locals a statement leaves in scope behind it
-abbrev pub locals_of : Tree → ℕ
-locals_of (Local _ _ names _) = length names
-locals_of (LocalFunction _ _ _ _) = 1
-locals_of _ = 0
+abbrev pub locals_declared : Tree → ℕ
+locals_declared (Local _ _ names _) = length names
+locals_declared (LocalFunction _ _ _ _) = 1
+locals_declared _ = 0
 
 abbrev pub locals_next : List ℕ → Option Trees → ℕ → Tree → ℕ
 locals_next x (Some _) before t = before
-locals_next x None before t = if is_label x t then before else (before + locals_of t)
+locals_next x None before t = if is_label x t then before else (before + locals_declared t)
 
 -- how many locals the statements before the first label of this name leave in scope
 abbrev pub locals_before : List ℕ → Trees → ℕ

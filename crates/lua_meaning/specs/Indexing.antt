@@ -38,12 +38,12 @@ module _ {H : Type 0} (again : Again H) where
   put_further true f t key x lines = tick (λ s r. after (again (Apply f (value.Table t ∷ key ∷ x ∷ []) lines lines) s r) (λ vs. go []))
   put_further false o t key x lines = tick (again (Put o key x lines))
 
-  abbrev pub put_by : (handler : Value) (t : ℕ) (key x : Value) → List ℕ → Run H
-  put_by value.Nil t key x lines = put lines t key x (go [])
-  put_by f t key x lines = put_further (is_function f) f t key x lines
+  abbrev pub put_else : (handler : Value) (t : ℕ) (key x : Value) → List ℕ → Run H
+  put_else value.Nil t key x lines = put lines t key x (go [])
+  put_else f t key x lines = put_further (is_function f) f t key x lines
 
   abbrev pub put_over : (found : Value) (t : ℕ) (key x : Value) → List ℕ → Run H
-  put_over value.Nil t key x lines = λ s. put_by (metamethod (heap_of s) (value.Table t) (codes "__newindex")) t key x lines s
+  put_over value.Nil t key x lines = λ s. put_else (metamethod (heap_of s) (value.Table t) (codes "__newindex")) t key x lines s
   put_over v t key x lines = put lines t key x (go [])
 
   -- `object[key] = value`

@@ -1,6 +1,6 @@
 -- The steps that runs are made of: going on, instructions, memory, errors, and what comes to be.
 -- This project's own: what an instruction is, what memory costs, the texts of errors, and the most values of a list.
-use Rattle.std.specs.Prelude.{ℕ, zero, suc, Bool, true, false, nat_lt, List, [], ◌∷◌, ◌++◌, length, if◌then◌else◌, codes, decimal}
+use Rattle.std.specs.Prelude.{ℕ, Bool, true, false, nat_lt, List, [], ◌∷◌, ◌++◌, length, if◌then◌else◌, codes, decimal}
 use Rattle.zc_budget.specs.Used.{Used, is_spent, ticked, is_over, charged}
 use Rattle.zc_budget.specs.declared.budget.Stop.TheVariants as stop
 use Rattle.lua_meaning.specs.declared.value.Value.{Value}
@@ -52,10 +52,6 @@ module _ {H : Type 0} where
   -- one instruction, or a stop where none is left
   abbrev pub tick : Run H → Run H
   tick k s r = tick_by (is_spent (used_of s)) k s r
-
-  abbrev pub ticks : ℕ → Run H → Run H
-  ticks zero k = k
-  ticks (suc n) k = tick (ticks n k)
 
   abbrev pub charge_by : Bool → ℕ → Run H → Run H
   charge_by true n k s r = Halt (Stops stop.Memory) s r
