@@ -7,3 +7,4 @@ pub mod SnapshotLaw
 pub mod RenameSnapshotLaw
 pub mod CloneSettings
 pub mod CloneLaw
+pub mod RollbackLaw

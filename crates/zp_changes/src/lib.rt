@@ -5,6 +5,7 @@ mod clone;
 mod create;
 mod mount;
 mod rename_snapshot;
+mod rollback;
 mod snapshot;
 mod stamp;
 mod unmount;
@@ -42,6 +43,7 @@ pub fn apply<T: Datasets>(
         Command::Mount { name } => mount::apply(alloc, tree, name),
         Command::Unmount { name } => unmount::apply(alloc, tree, name),
         Command::Stamp { name, value } => stamp::apply(alloc, tree, name, *value),
+        Command::Rollback { name } => rollback::apply(alloc, tree, name),
         Command::RenameSnapshot { name, old, new } => {
             rename_snapshot::apply(alloc, tree, name, old.as_slice(), new.as_slice())
         }

@@ -5,6 +5,7 @@ mod clone;
 mod create;
 mod mount;
 mod rename_snapshot;
+mod rollback;
 mod snapshot;
 mod stamp;
 mod unmount;
@@ -30,6 +31,7 @@ pub fn check<T: Datasets>(alloc: Global, tree: &T, command: &Command) -> Result<
         Command::Mount { name } => Ok(mount::check(alloc, tree, name)),
         Command::Unmount { name } => Ok(unmount::check(alloc, tree, name)),
         Command::Stamp { name, .. } => Ok(stamp::check(alloc, tree, name)),
+        Command::Rollback { name } => Ok(rollback::check(alloc, tree, name)),
         Command::RenameSnapshot { name, old, new } => {
             rename_snapshot::check(alloc, tree, name, old.as_slice(), new.as_slice())
         }

@@ -21,6 +21,8 @@ pub enum Command {
     Unmount { name: Name },
     /// Write a number that stands for the content of this dataset.
     Stamp { name: Name, value: u64 },
+    /// Take this dataset back to its latest snapshot: zfs-rollback(8).
+    Rollback { name: Name },
     /// Rename a snapshot of this dataset, from one short name to another: zfs-rename(8).
     RenameSnapshot { name: Name, old: Bytes, new: Bytes },
 }
@@ -57,6 +59,9 @@ impl Command {
             Command::Stamp { name, value } => Ok(Command::Stamp {
                 name: name.copy(alloc)?,
                 value: *value,
+            }),
+            Command::Rollback { name } => Ok(Command::Rollback {
+                name: name.copy(alloc)?,
             }),
             Command::RenameSnapshot { name, old, new } => Ok(Command::RenameSnapshot {
                 name: name.copy(alloc)?,

@@ -7,6 +7,7 @@ pub mod Adding
 pub mod Changing
 pub mod NewPoolLaw
 pub mod Clear
+pub mod Latest
 pub mod Sums
 pub mod Found
 pub mod VerdictTexts

@@ -13,6 +13,7 @@ use Rattle.zp_tree.specs.MakeClone.{clone_rows}
 use Rattle.zp_tree.specs.Mount.{mount_rows}
 use Rattle.zp_tree.specs.Unmount.{unmount_rows}
 use Rattle.zp_tree.specs.WriteStamp.{stamp_rows}
+use Rattle.zp_tree.specs.Rollback.{rollback_rows}
 use Rattle.zp_tree.specs.RenameSnapshot.{rename_snapshot_rows}
 use Rattle.zp_tree.specs.Commands.{check_of}
 
@@ -36,6 +37,7 @@ no-details t (command.Clone source name) = first-plain (clone_rows t source name
 no-details t (command.Mount name) = first-plain (mount_rows t name) (refl, (refl, (refl, (refl, tt))))
 no-details t (command.Unmount name) = first-plain (unmount_rows t name) (refl, (refl, (refl, tt)))
 no-details t (command.Stamp name value) = first-plain (stamp_rows t name) (refl, (refl, tt))
+no-details t (command.Rollback name) = first-plain (rollback_rows t name) (refl, (refl, (refl, (refl, tt))))
 no-details t (command.RenameSnapshot name old new) = first-plain (rename_snapshot_rows t name old new) (refl, (refl, (refl, (refl, tt))))
 
 -- the details of a verdict are UTF-8

@@ -10,6 +10,7 @@ use Rattle.zp_tree.specs.MakeClone.{clone_check, clone_change}
 use Rattle.zp_tree.specs.Mount.{mount_check, mount_change}
 use Rattle.zp_tree.specs.Unmount.{unmount_check, unmount_change}
 use Rattle.zp_tree.specs.WriteStamp.{stamp_check, stamp_change}
+use Rattle.zp_tree.specs.Rollback.{rollback_check, rollback_change}
 use Rattle.zp_tree.specs.RenameSnapshot.{rename_snapshot_check, rename_snapshot_change}
 
 -- the verdict on a command
@@ -20,6 +21,7 @@ check_of t (command.Clone source name) = clone_check t source name
 check_of t (command.Mount name) = mount_check t name
 check_of t (command.Unmount name) = unmount_check t name
 check_of t (command.Stamp name value) = stamp_check t name
+check_of t (command.Rollback name) = rollback_check t name
 check_of t (command.RenameSnapshot name old new) = rename_snapshot_check t name old new
 
 -- the tree after a command, in a transaction group, at a moment in seconds
@@ -30,4 +32,5 @@ change_of t (command.Clone source name) txg now = clone_change t source name txg
 change_of t (command.Mount name) txg now = mount_change t name
 change_of t (command.Unmount name) txg now = unmount_change t name
 change_of t (command.Stamp name value) txg now = stamp_change t name value
+change_of t (command.Rollback name) txg now = rollback_change t name
 change_of t (command.RenameSnapshot name old new) txg now = rename_snapshot_change t name old new

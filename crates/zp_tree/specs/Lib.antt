@@ -11,4 +11,5 @@ pub mod Mount
 pub mod Unmount
 pub mod WriteStamp
 pub mod RenameSnapshot
+pub mod Rollback
 pub mod Commands

@@ -97,6 +97,10 @@ snapshot_named t name = option_and_then as_snapshot (named t.records name)
 abbrev pub head_at : Tree → ℕ → Option Head
 head_at t i = option_and_then as_head (at t.records i)
 
+-- the snapshot with this id
+abbrev pub snapshot_at : Tree → ℕ → Option Snapshot
+snapshot_at t i = option_and_then as_snapshot (at t.records i)
+
 -- the head that the name would stand below
 abbrev pub parent_in : Tree → List ℕ → Option Head
 parent_in t name = option_and_then (head_named t) (parent_of name)

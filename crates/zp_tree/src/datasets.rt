@@ -1,9 +1,10 @@
 //! What a tree of datasets promises, whatever keeps it.
 
 ghost use Rattle.std.specs.Prelude.{◌≡◌, ℕ, ◌+◌, ◌<◌, ◌≤◌, ◌^◌, length, IsSome, OnOk, IfOk, option_map};
+ghost use Rattle.zp_tree.specs.Rollback.{latest};
 ghost use Rattle.zp_tree.specs.Tree.{Tree, at, id_of, put, without, Finds, Rises, added};
 
-use crate::Item;
+use crate::{Item, Snapshot};
 use std::alloc::Global;
 use zc_io::NoMemory;
 use zp_names::Name;
@@ -23,6 +24,10 @@ pub trait Datasets: Drop {
     /// The record with this id; none where there is none.
     fn item(&self, id: u64) -> Option<&Item>
         ensures { option_map (λ r. r.now) result ≡ at (tree self.now).records id };
+
+    /// The latest snapshot of a head; none where it has none.
+    fn latest_snapshot(&self, owner: u64) -> Option<&Snapshot>
+        ensures { option_map (λ s. s.now) result ≡ latest owner (tree self.now).records };
 
     /// How many records there are.
     fn len(&self) -> u64

@@ -8,7 +8,7 @@ mod plain;
 
 pub use datasets::Datasets;
 pub use item::{Bookmark, Head, HeadKind, Hold, Holds, Item, Snapshot};
-pub use lookup::{exists, is_full, named};
+pub use lookup::{exists, is_full, named, rollback_source};
 pub use plain::PlainTree;
 
 /// The most records that a tree has.

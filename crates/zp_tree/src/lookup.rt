@@ -2,9 +2,10 @@
 
 ghost use Rattle.std.specs.Prelude.{◌≡◌, IfSome, option_map};
 ghost use Rattle.zp_tree.specs.Tree.{at, id_of, named, exists, is_full};
+ghost use Rattle.zp_tree.specs.Rollback.{rollback_source};
 ghost use Rattle.zp_tree.specs.WellFormed.{IsWellFormed};
 
-use crate::{Datasets, Item, MOST_RECORDS};
+use crate::{Datasets, Head, Item, MOST_RECORDS, Snapshot};
 use zp_names::Name;
 
 /// The record with this full name; none where there is none.
@@ -23,6 +24,19 @@ pub fn exists<T: Datasets>(tree: &T, name: &Name) -> bool
     ensures { result ≡ exists (T.tree tree.now) name.now }
 {
     tree.find(name).is_some()
+}
+
+/// What a head is taken back to: its latest snapshot, else its origin.
+pub fn rollback_source<'a, T: Datasets>(tree: &'a T, head: &Head) -> Option<&'a Snapshot>
+    ensures { option_map (λ s. s.now) result ≡ rollback_source (T.tree tree.now) head.now }
+{
+    if let Some(snapshot) = tree.latest_snapshot(head.id) {
+        return Some(snapshot);
+    }
+    match tree.item(head.origin?) {
+        Some(Item::Snap(snapshot)) => Some(snapshot),
+        _ => None,
+    }
 }
 
 /// Whether the tree takes no further record.

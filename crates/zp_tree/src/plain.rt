@@ -3,10 +3,12 @@
 ghost use Rattle.std.specs.Prelude.{◌≡◌, ◌≤◌, ◌-◌, ◌++◌, ◌∷◌, true, bytes_eq, option_map, IfOk, IsSome, position, vec_len, vec_capacity};
 ghost use Rattle.zp_names.specs.NameParts.{is_pool};
 ghost use Rattle.zp_tree.specs.Tree.{at, has_id, id_of, put, without, head_name, is_called, named};
+ghost use Rattle.std.specs.Option.{option_or};
 ghost use Rattle.zp_tree.specs.NewPool.{new_pool};
+ghost use Rattle.zp_tree.specs.Rollback.{own_snapshot, latest};
 ghost use Rattle.zp_tree.specs.WellFormed.{IsWellFormed};
 
-use crate::{Datasets, Head, HeadKind, Item};
+use crate::{Datasets, Head, HeadKind, Item, Snapshot};
 use std::alloc::Global;
 use std::marker::Model;
 use zc_io::NoMemory;
@@ -119,6 +121,26 @@ fn named<'a>(records: &'a [Item], name: &[u8]) -> Option<&'a Item>
     records.iter().find(|item| is_called(records, name, item))
 }
 
+/// The record, where it is a snapshot of this head, else what was found before it.
+fn later<'a>(found: Option<&'a Snapshot>, owner: u64, item: &'a Item) -> Option<&'a Snapshot>
+    ensures { option_map (λ s. s.now) result ≡ option_or (own_snapshot owner item.now) (option_map (λ s. s.now) found.entry) }
+{
+    match item {
+        Item::Snap(snapshot) if snapshot.owner == owner => Some(snapshot),
+        _ => found,
+    }
+}
+
+fn latest_snapshot(records: &[Item], owner: u64) -> Option<&Snapshot>
+    ensures { option_map (λ s. s.now) result ≡ latest owner records.now }
+{
+    let mut found = None;
+    for item in records {
+        found = later(found, owner, item);
+    }
+    found
+}
+
 fn copy_records(alloc: Global, records: &[Item]) -> Result<Vec<Item>, NoMemory>
     ensures { IfOk result (λ copy. copy.items ≡ records.now) }
 {
@@ -164,6 +186,10 @@ impl Datasets for PlainTree {
 
     fn item(&self, id: u64) -> Option<&Item> {
         item_at(self.records.as_slice(), id)
+    }
+
+    fn latest_snapshot(&self, owner: u64) -> Option<&Snapshot> {
+        latest_snapshot(self.records.as_slice(), owner)
     }
 
     fn len(&self) -> u64 {
