@@ -308,3 +308,31 @@ lines_in_coroutine_tree = block
 lines_in_coroutine : run (written lines_in_coroutine_function 0 [] ∷ []) [] lines_in_coroutine_tree 100000 100000 ≡ Answers (value.Text (codes "[string \"channel program\"]:2: deep") ∷ []) 25 426 []
 unfolding computing
 lines_in_coroutine = refl
+
+-- return tostring(setmetatable({}, {__tostring = coroutine.yield}))
+-- In the main thread the first of the two errors of a yield counts.
+abbrev yield_across_outside_tree : Tree
+yield_across_outside_tree = block
+    (gives
+    (call (global "tostring")
+    (call (global "setmetatable")
+    (table no_field ∷ table (named no_field (codes "__tostring") (dot (global "coroutine") "yield")) ∷ []) ∷ []) ∷ []) ∷ [])
+
+yield_across_outside : run [] [] yield_across_outside_tree 100 1000 ≡ Fails (codes "[string \"channel program\"]:1: attempt to yield from outside a coroutine") 14 335 []
+unfolding computing
+yield_across_outside = refl
+
+-- local co = coroutine.create(error)
+-- local a, b = coroutine.resume(co, "x")
+-- return b
+-- A built-in that is a coroutine's function has the line of the resumption.
+abbrev built_in_has_the_line_of_its_resumption_tree : Tree
+built_in_has_the_line_of_its_resumption_tree = block
+    (local 0 ("co" ∷ []) (call (dot (global "coroutine") "create") (global "error" ∷ []) ∷ [])
+    ∷ Local 1 2 (codes "a" ∷ codes "b" ∷ [])
+    (parts (Call 0 2 (dot (global "coroutine") "resume") (parts (name 0 "co" ∷ text "x" ∷ [])) ∷ []))
+    ∷ gives (name 2 "b" ∷ []) ∷ [])
+
+built_in_has_the_line_of_its_resumption : run [] [] built_in_has_the_line_of_its_resumption_tree 100 1000 ≡ Answers (value.Text (codes "[string \"channel program\"]:2: x") ∷ []) 19 375 []
+unfolding computing
+built_in_has_the_line_of_its_resumption = refl

@@ -262,3 +262,13 @@ joins_a_table_tree = block (gives (binary bin.Concat (table no_field) (text "a")
 joins_a_table : run [] [] joins_a_table_tree 100 1000 ≡ Fails (codes "[string \"channel program\"]:1: attempt to concatenate a table value") 5 218 []
 unfolding computing
 joins_a_table = refl
+
+-- return "0123456789012345678901234567890123456789012345678901234567890123" .. ""
+-- The memory of the result comes before its instructions.
+abbrev joining_takes_memory_first_tree : Tree
+joining_takes_memory_first_tree = block
+    (gives (binary bin.Concat (text "0123456789012345678901234567890123456789012345678901234567890123") (text "") ∷ []) ∷ [])
+
+joining_takes_memory_first : run [] [] joining_takes_memory_first_tree 5 1000 ≡ Ends stop.Instructions 5 152 []
+unfolding computing
+joining_takes_memory_first = refl
