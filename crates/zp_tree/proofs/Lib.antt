@@ -8,6 +8,7 @@ pub mod Changing
 pub mod NewPoolLaw
 pub mod Clear
 pub mod Latest
+pub mod Coming
 pub mod Sums
 pub mod Found
 pub mod VerdictTexts

@@ -12,4 +12,5 @@ pub mod Unmount
 pub mod WriteStamp
 pub mod RenameSnapshot
 pub mod Rollback
+pub mod NextByName
 pub mod Commands

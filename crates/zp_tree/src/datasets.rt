@@ -1,6 +1,7 @@
 //! What a tree of datasets promises, whatever keeps it.
 
 ghost use Rattle.std.specs.Prelude.{◌≡◌, ℕ, ◌+◌, ◌<◌, ◌≤◌, ◌^◌, length, IsSome, OnOk, IfOk, option_map};
+ghost use Rattle.zp_tree.specs.NextByName.{IsNext, is_child_above, is_snapshot_above, is_clone_above};
 ghost use Rattle.zp_tree.specs.Rollback.{latest};
 ghost use Rattle.zp_tree.specs.Tree.{Tree, at, id_of, put, without, Finds, Rises, added};
 
@@ -24,6 +25,18 @@ pub trait Datasets: Drop {
     /// The record with this id; none where there is none.
     fn item(&self, id: u64) -> Option<&Item>
         ensures { option_map (λ r. r.now) result ≡ at (tree self.now).records id };
+
+    /// The child of this head whose name comes first above a text, by bytes; none where no child has a name above it.
+    fn heads_after(&self, parent: u64, after: &[u8]) -> Option<u64>
+        ensures { IsNext (tree self.now).records (is_child_above (tree self.now).records parent after.now) result };
+
+    /// The same of the full names of this head's snapshots.
+    fn snaps_after(&self, owner: u64, after: &[u8]) -> Option<u64>
+        ensures { IsNext (tree self.now).records (is_snapshot_above (tree self.now).records owner after.now) result };
+
+    /// The same of the names of the heads whose origin is this snapshot.
+    fn clones_after(&self, snapshot: u64, after: &[u8]) -> Option<u64>
+        ensures { IsNext (tree self.now).records (is_clone_above snapshot after.now) result };
 
     /// The latest snapshot of a head; none where it has none.
     fn latest_snapshot(&self, owner: u64) -> Option<&Snapshot>

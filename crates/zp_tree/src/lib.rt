@@ -4,6 +4,7 @@
 mod datasets;
 mod item;
 mod lookup;
+mod next_by_name;
 mod plain;
 
 pub use datasets::Datasets;

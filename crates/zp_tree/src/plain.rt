@@ -4,10 +4,12 @@ ghost use Rattle.std.specs.Prelude.{◌≡◌, ◌≤◌, ◌-◌, ◌++◌, ◌
 ghost use Rattle.zp_names.specs.NameParts.{is_pool};
 ghost use Rattle.zp_tree.specs.Tree.{at, has_id, id_of, put, without, head_name, is_called, named};
 ghost use Rattle.std.specs.Option.{option_or};
+ghost use Rattle.zp_tree.specs.NextByName.{IsNext, is_child_above, is_snapshot_above, is_clone_above};
 ghost use Rattle.zp_tree.specs.NewPool.{new_pool};
 ghost use Rattle.zp_tree.specs.Rollback.{own_snapshot, latest};
 ghost use Rattle.zp_tree.specs.WellFormed.{IsWellFormed};
 
+use crate::next_by_name::{Children, Clones, Snapshots, first_by_name};
 use crate::{Datasets, Head, HeadKind, Item, Snapshot};
 use std::alloc::Global;
 use std::marker::Model;
@@ -141,6 +143,45 @@ fn latest_snapshot(records: &[Item], owner: u64) -> Option<&Snapshot>
     found
 }
 
+fn id_of(item: Option<&Item>) -> Option<u64>
+    ensures { result ≡ option_map id_of (option_map (λ r. r.now) item.entry) }
+{
+    match item {
+        Some(item) => Some(item.id()),
+        None => None,
+    }
+}
+
+fn children_after(records: &[Item], parent: u64, after: &[u8]) -> Option<u64>
+    ensures { IsNext records.now (is_child_above records.now parent after.now) result }
+{
+    match head_name(records, parent) {
+        None => None,
+        Some(name) => {
+            let parent = name.as_bytes();
+            id_of(first_by_name(records, &Children { parent, after }))
+        }
+    }
+}
+
+fn snapshots_after(records: &[Item], owner: u64, after: &[u8]) -> Option<u64>
+    ensures { IsNext records.now (is_snapshot_above records.now owner after.now) result }
+{
+    match head_name(records, owner) {
+        None => None,
+        Some(name) => {
+            let name = name.as_bytes();
+            id_of(first_by_name(records, &Snapshots { owner, name, after }))
+        }
+    }
+}
+
+fn clones_after(records: &[Item], snapshot: u64, after: &[u8]) -> Option<u64>
+    ensures { IsNext records.now (is_clone_above snapshot after.now) result }
+{
+    id_of(first_by_name(records, &Clones { snapshot, after }))
+}
+
 fn copy_records(alloc: Global, records: &[Item]) -> Result<Vec<Item>, NoMemory>
     ensures { IfOk result (λ copy. copy.items ≡ records.now) }
 {
@@ -186,6 +227,18 @@ impl Datasets for PlainTree {
 
     fn item(&self, id: u64) -> Option<&Item> {
         item_at(self.records.as_slice(), id)
+    }
+
+    fn heads_after(&self, parent: u64, after: &[u8]) -> Option<u64> {
+        children_after(self.records.as_slice(), parent, after)
+    }
+
+    fn snaps_after(&self, owner: u64, after: &[u8]) -> Option<u64> {
+        snapshots_after(self.records.as_slice(), owner, after)
+    }
+
+    fn clones_after(&self, snapshot: u64, after: &[u8]) -> Option<u64> {
+        clones_after(self.records.as_slice(), snapshot, after)
     }
 
     fn latest_snapshot(&self, owner: u64) -> Option<&Snapshot> {
