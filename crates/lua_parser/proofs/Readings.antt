@@ -16,9 +16,9 @@ use Rattle.lua_grammar.specs.Deciding.{step_by, reading_by, reading_from, readin
 use Rattle.lua_grammar.proofs.Decides.{reads, the_reading}
 use Rattle.lua_parser.specs.declared.parse_error.ParseError.{ParseError}
 use Rattle.lua_parser.specs.declared.parse_error.ParseError.TheVariants as error
-use Rattle.lua_parser.specs.declared.refusal.Refusal.{Refusal}
-use Rattle.lua_parser.specs.declared.refusal.Refusal.TheVariants as refusal
-use Rattle.lua_parser.specs.Gave.{Refuses}
+use Rattle.lua_frames.specs.declared.refusal.Refusal.{Refusal}
+use Rattle.lua_frames.specs.declared.refusal.Refusal.TheVariants as refusal
+use Rattle.lua_frames.specs.Gave.{Refuses}
 use Rattle.lua_parser.specs.Parsing.{tree_of, HasTree, IsRefusal, IsAnswer, AreFit, refusal_at}
 
 drop_at : (ts : List Token) (i : ℕ) (t : Token) → slice_get ts i ≡ Some t → drop i ts ≡ t ∷ drop (suc i) ts

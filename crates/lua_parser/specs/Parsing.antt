@@ -7,9 +7,9 @@ use Rattle.lua_ast.specs.Decode.{ChunkNodes, tree, no_number}
 use Rattle.lua_grammar.specs.Parses.{IsUnexpected, IsTooDeep, IsUnfinished, Reading, parsed, unexpected, too_deep, unfinished}
 use Rattle.lua_parser.specs.declared.parse_error.ParseError.{ParseError}
 use Rattle.lua_parser.specs.declared.parse_error.ParseError.TheVariants as error
-use Rattle.lua_parser.specs.declared.refusal.Refusal.{Refusal}
-use Rattle.lua_parser.specs.declared.refusal.Refusal.TheVariants as refusal
-use Rattle.lua_parser.specs.Gave.{IsSmall}
+use Rattle.lua_frames.specs.declared.refusal.Refusal.{Refusal}
+use Rattle.lua_frames.specs.declared.refusal.Refusal.TheVariants as refusal
+use Rattle.lua_frames.specs.Gave.{IsSmall}
 
 -- The tree of a chunk, without the numbers of its nodes.
 abbrev pub tree_of : ChunkNodes → Tree

@@ -10,14 +10,13 @@ ghost use Rattle.lua_grammar.specs.Pushdown.{step_from};
 ghost use Rattle.lua_grammar.specs.Deciding.{reading, reading_at_end};
 ghost use Rattle.lua_parser.specs.Parsing.{tree_of, HasTree, IsRefusal, IsAnswer, AreFit, refusal_at};
 ghost use Rattle.lua_ast.specs.Once.{IsEachOnce};
-ghost use Rattle.lua_parser.specs.Weights.{spent_weight, made_weight, accounted};
-ghost use Rattle.lua_parser.specs.Shown.{stack_in, state_in, attributes, StateBelow};
+ghost use Rattle.lua_frames.specs.Weights.{spent_weight, made_weight, accounted};
+ghost use Rattle.lua_frames.specs.Shown.{stack_in, state_in, attributes, StateBelow};
 
 use crate::parse_error::ParseError;
-use crate::parser::Parser;
-use crate::refusal::Refusal;
-use crate::state::State;
+use crate::step::{end, step};
 use lua_ast::Chunk;
+use lua_frames::{Parser, Refusal, State};
 use lua_lexer::Token;
 use std::alloc::Global;
 
@@ -35,6 +34,7 @@ pub fn parse(alloc: Global, text: &[u8], tokens: &[Token]) -> Result<Chunk, Pars
     parse_tokens(alloc, text, tokens)
 }
 
+/// Parses tokens that lie within the text.
 fn parse_tokens(alloc: Global, text: &[u8], tokens: &[Token]) -> Result<Chunk, ParseError>
     requires size { length text.now ≤ 1048576 }
     requires fit { AreFit text.now tokens.now }
@@ -61,7 +61,7 @@ fn read(parser: &mut Parser, text: &[u8], tokens: &[Token]) -> Result<State, Par
 {
     let mut state = State::BlockNext;
     for token in tokens {
-        match parser.step(state, token.kind, token.line, token.slice(text)) {
+        match step(parser, state, token.kind, token.line, token.slice(text)) {
             Ok(next) => state = next,
             Err(refusal) => return Err(refusal_at(refusal, token.start)),
         }
@@ -81,7 +81,7 @@ fn refusal_at(refusal: Refusal, start: u32) -> ParseError
 }
 
 /// The chunk of a text of this many bytes, which ends in this state.
-#[tactic(auto, unfolding(crate::specs::Weights::made_weight))]
+#[tactic(auto, unfolding(lua_frames::specs::Weights::made_weight))]
 fn finish(mut parser: Parser, state: State, len: u32) -> Result<Chunk, ParseError>
     requires below { StateBelow (length parser.nodes) state }
     requires balance { (w : ℕ → ℕ) → accounted w state parser ≡ made_weight w parser }
@@ -89,7 +89,7 @@ fn finish(mut parser: Parser, state: State, len: u32) -> Result<Chunk, ParseErro
         (reading_at_end (step_from (state_in parser.nodes (stack_in parser) state) end (attributes true 1 []))) result }
     ensures once { IfOk result (λ chunk. IsEachOnce chunk) }
 {
-    let last = match parser.end(state) {
+    let last = match end(&mut parser, state) {
         Ok(last) => last,
         Err(Refusal::NoMemory) => return Err(ParseError::NoMemory),
         Err(_) => return Err(ParseError::EndOfText(len)),

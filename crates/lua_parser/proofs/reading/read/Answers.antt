@@ -8,8 +8,8 @@ use Rattle.lua_grammar.specs.Pushdown as pushdown
 use Rattle.lua_grammar.specs.Pushdown.{BlockNext, step_from}
 use Rattle.lua_grammar.specs.Deciding.{reading, reading_from}
 use Rattle.lua_parser.specs.declared.parse_error.ParseError.{ParseError}
-use Rattle.lua_parser.specs.Shown.{stack_in, state_in, attributes}
-use Rattle.lua_parser.specs.Gave.{Refuses, IsSmall}
+use Rattle.lua_frames.specs.Shown.{stack_in, state_in, attributes}
+use Rattle.lua_frames.specs.Gave.{Refuses, IsSmall}
 use Rattle.lua_parser.specs.Parsing.{IsAnswer}
 use Rattle.lua_parser.proofs.Readings.{stops}
 use Rattle.lua_parser.proofs.reading.read.Goals as goal
