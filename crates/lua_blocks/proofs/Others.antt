@@ -4,11 +4,11 @@ use Rattle.lua_ast.specs.Tree as tree
 use Rattle.lua_grammar.specs.Signs.{Terminal, Attributes}
 use Rattle.lua_grammar.specs.Pushdown as pushdown
 use Rattle.lua_ast.specs.declared.node.LinedNode.{LinedNode}
-use Rattle.lua_frames.specs.declared.frame.OpenStatement.{OpenStatement}
-use Rattle.lua_frames.specs.declared.frame.OpenStatement.TheVariants as statement
-use Rattle.lua_frames.specs.declared.frame.OpenHeader.{OpenHeader}
-use Rattle.lua_frames.specs.declared.frame.OpenHeader.TheVariants as header
-use Rattle.lua_frames.specs.Shown.{statement_in, header_in}
+use Rattle.lua_parser_state.specs.declared.frame.OpenStatement.{OpenStatement}
+use Rattle.lua_parser_state.specs.declared.frame.OpenStatement.TheVariants as statement
+use Rattle.lua_parser_state.specs.declared.frame.OpenHeader.{OpenHeader}
+use Rattle.lua_parser_state.specs.declared.frame.OpenHeader.TheVariants as header
+use Rattle.lua_parser_state.specs.Shown.{statement_in, header_in}
 
 pub end_in_statement : (ns : List LinedNode) (s : OpenStatement) (t : tree.Tree) (k : List pushdown.Frame) (m : Terminal) (i : Attributes) → pushdown.end_block (statement_in ns s ∷ k) t m i ≡ None
 end_in_statement ns (statement.Local l names es b) t k m i = refl

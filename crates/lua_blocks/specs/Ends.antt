@@ -4,8 +4,8 @@ use Rattle.lua_ast.specs.Tree as tree
 use Rattle.lua_grammar.specs.Signs.{Terminal, Attributes}
 use Rattle.lua_grammar.specs.Kinds as kind
 use Rattle.lua_grammar.specs.Pushdown as pushdown
-use Rattle.lua_frames.specs.declared.frame.Head.{Head}
-use Rattle.lua_frames.specs.declared.frame.Head.TheVariants as head
+use Rattle.lua_parser_state.specs.declared.frame.Head.{Head}
+use Rattle.lua_parser_state.specs.declared.frame.Head.TheVariants as head
 
 -- A statement ends with its block.
 abbrev pub ended : pushdown.Begun → tree.Tree → List pushdown.Frame → Terminal → Option pushdown.State

@@ -3,23 +3,23 @@
 ghost use Rattle.std.specs.Prelude.{◌+◌, ◌<◌, ◌∷◌, [], true, false, length, Some, None};
 ghost use Rattle.lua_ast.specs.Decode.{PartsBelow, node_tree, cases_of};
 ghost use Rattle.lua_grammar.specs.Pushdown.{end_block, block_of, InRepeat, InThen, InElse};
-ghost use Rattle.lua_frames.specs.Shown.{tree_in, stack_in, begun_in, block_in, frame_in, attributes, BegunBelow, CasesBelow, BlockBelow, FrameBelow};
-ghost use Rattle.lua_frames.specs.declared.frame.OpenBlock.TheVariants.{NumericFor as OverNumbers, GenericFor as OverIterators};
-ghost use Rattle.lua_frames.specs.Gave.{Gave, terminal_of};
+ghost use Rattle.lua_parser_state.specs.Shown.{tree_in, stack_in, begun_in, block_in, frame_in, attributes, BegunBelow, CasesBelow, BlockBelow, FrameBelow};
+ghost use Rattle.lua_parser_state.specs.declared.frame.OpenBlock.TheVariants.{NumericFor as OverNumbers, GenericFor as OverIterators};
+ghost use Rattle.lua_parser_state.specs.Gave.{Gave, terminal_of};
 ghost use Rattle.lua_blocks.specs.Ends.{ended, after_cases};
 ghost use Rattle.lua_ast.specs.Weights.{list_weight, maybe_weight, cases_weight, parts_weight};
-ghost use Rattle.lua_frames.specs.Weights.{Spends, begun_weight, block_weight, frame_weight};
+ghost use Rattle.lua_parser_state.specs.Weights.{Spends, begun_weight, block_weight, frame_weight};
 
 use crate::function::close_function;
 use lua_ast::{Ids, Node, NodeId};
-use lua_frames::{
+use lua_lexer::TokenKind;
+use lua_parser_state::{
     Begun, Frame, GenericFor, NumericFor, OpenBlock, OpenHeader, OpenStatement, Parser, Refusal,
     State,
 };
-use lua_lexer::TokenKind;
 
 /// Adds the node of a block, and reads the token behind it.
-#[tactic(auto, unfolding(lua_frames::specs::Weights::spent_weight))]
+#[tactic(auto, unfolding(lua_parser_state::specs::Weights::spent_weight))]
 pub fn end_block(
     parser: &mut Parser,
     block: Begun,
@@ -254,7 +254,7 @@ fn close_statement(
 }
 
 /// Appends a case to those of an `if`, and reads the `end`, `elseif` or `else` behind it.
-#[tactic(auto, using(lua_ast::proofs::PlacesBelow::below_push, lua_frames::proofs::Lists::length_push))]
+#[tactic(auto, using(lua_ast::proofs::PlacesBelow::below_push, lua_parser_state::proofs::Lists::length_push))]
 fn close_then(
     parser: &mut Parser,
     line: u32,

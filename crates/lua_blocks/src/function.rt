@@ -4,15 +4,15 @@ ghost use Rattle.std.specs.Prelude.{◌+◌, ◌≡◌, ◌<◌, ◌++◌, ◌�
 ghost use Rattle.lua_ast.specs.Tree.{Function, Assign, LocalFunction, none, snoc};
 ghost use Rattle.lua_ast.specs.Decode.{PartsBelow, node_tree};
 ghost use Rattle.lua_grammar.specs.Pushdown.{StatNext, InFunction, add, end_block, finished, own_line, given_of};
-ghost use Rattle.lua_frames.specs.Shown.{tree_in, stack_in, state_in, begun_in, head_in, given, attributes, BegunBelow, HeadBelow, StateBelow};
+ghost use Rattle.lua_parser_state.specs.Shown.{tree_in, stack_in, state_in, begun_in, head_in, given, attributes, BegunBelow, HeadBelow, StateBelow};
 ghost use Rattle.lua_ast.specs.Weights.{parts_weight};
-ghost use Rattle.lua_frames.specs.Gave.{Gave, terminal_of};
+ghost use Rattle.lua_parser_state.specs.Gave.{Gave, terminal_of};
 ghost use Rattle.lua_blocks.specs.Ends.{is_method};
-ghost use Rattle.lua_frames.specs.Weights.{Spends, begun_weight, head_weight};
+ghost use Rattle.lua_parser_state.specs.Weights.{Spends, begun_weight, head_weight};
 
 use lua_ast::{AstText, AstTexts, Ids, Node, NodeId};
-use lua_frames::{Begun, Head, Parser, Refusal, State};
 use lua_lexer::TokenKind;
+use lua_parser_state::{Begun, Head, Parser, Refusal, State};
 use std::alloc::{AllocError, Global};
 
 /// Reads the `end` behind the block of a function.
@@ -89,7 +89,7 @@ fn is_method(head: &Head) -> bool
 }
 
 /// Adds the nodes of `function a.b() .. end`, where this node is the function.
-#[tactic(auto, using(lua_frames::proofs::Lists::one_of, lua_ast::proofs::PlacesBelow::below_more))]
+#[tactic(auto, using(lua_parser_state::proofs::Lists::one_of, lua_ast::proofs::PlacesBelow::below_more))]
 fn assign_function(
     parser: &mut Parser,
     line: u32,

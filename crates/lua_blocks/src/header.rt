@@ -3,17 +3,17 @@
 ghost use Rattle.std.specs.Prelude.{◌+◌, ◌<◌, [], ℕ, List, true, false, length};
 ghost use Rattle.lua_ast.specs.Decode.{cases_of};
 ghost use Rattle.lua_grammar.specs.Pushdown.{InWhileTest, InIfTest, InFirst, InLimit, InStep, close};
-ghost use Rattle.lua_frames.specs.Shown.{tree_in, stack_in, begun_in, header_in, attributes, BegunBelow, CasesBelow, HeaderBelow};
-ghost use Rattle.lua_frames.specs.declared.frame.OpenHeader.TheVariants.{Iterator};
-ghost use Rattle.lua_frames.specs.Gave.{Gave, terminal_of};
+ghost use Rattle.lua_parser_state.specs.Shown.{tree_in, stack_in, begun_in, header_in, attributes, BegunBelow, CasesBelow, HeaderBelow};
+ghost use Rattle.lua_parser_state.specs.declared.frame.OpenHeader.TheVariants.{Iterator};
+ghost use Rattle.lua_parser_state.specs.Gave.{Gave, terminal_of};
 ghost use Rattle.lua_ast.specs.Weights.{list_weight, cases_weight};
-ghost use Rattle.lua_frames.specs.Weights.{Spends, begun_weight, header_weight};
+ghost use Rattle.lua_parser_state.specs.Weights.{Spends, begun_weight, header_weight};
 
 use lua_ast::{AstText, Ids, NodeId};
-use lua_frames::{
+use lua_lexer::TokenKind;
+use lua_parser_state::{
     Begun, Frame, GenericFor, NumericFor, OpenBlock, OpenHeader, Parser, Refusal, State,
 };
-use lua_lexer::TokenKind;
 
 /// Reads the token behind an expression that stands before the block of a statement.
 pub fn close_in_header(
@@ -223,7 +223,7 @@ fn close_step(
 }
 
 /// Appends an expression to those of a `for` over iterators, and reads the `,` or `do` behind it.
-#[tactic(auto, using(lua_ast::proofs::Growing::list_of_push, lua_ast::proofs::PlacesBelow::below_push, lua_frames::proofs::Weighing::list_push))]
+#[tactic(auto, using(lua_ast::proofs::Growing::list_of_push, lua_ast::proofs::PlacesBelow::below_push, lua_parser_state::proofs::Weighing::list_push))]
 fn close_iterator(
     parser: &mut Parser,
     mut generic: GenericFor,

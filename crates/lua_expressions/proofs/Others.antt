@@ -3,13 +3,13 @@ use Rattle.std.specs.Prelude.{Some, None, true, false, cond, nat_le, ◌&&◌, �
 use Rattle.std.proofs.Common.{ap, subst}
 use Rattle.lua_ast.specs.Tree as tree
 use Rattle.lua_grammar.specs.Operators.{Operator, operator_of, level, left_of, right_of}
-use Rattle.lua_frames.specs.declared.frame.Operation.{Operation}
+use Rattle.lua_parser_state.specs.declared.frame.Operation.{Operation}
 use Rattle.lua_expressions.specs.Suffixes.{chosen}
 use Rattle.lua_lexer.specs.declared.token.TokenKind.{TokenKind}
 use Rattle.lua_lexer.specs.declared.token.TokenKind.TheVariants as kind
 use Rattle.lua_grammar.specs.Signs.{Attributes, token}
 use Rattle.lua_grammar.specs.Pushdown as pushdown
-use Rattle.lua_frames.specs.Shown.{operator_in}
+use Rattle.lua_parser_state.specs.Shown.{operator_in}
 
 module _ (p n : ℕ) (t : tree.Tree) (k : List pushdown.Frame) (i : Attributes) (otherwise : Option pushdown.State) (op : Operation) where
   pub by_test : (b : Bool) (q : Operator) → Some (operator_in op) ≡ cond b (Some q) None → cond b (pushdown.opened k i (pushdown.Need (right_of q) (pushdown.InBinary p q t ∷ k))) otherwise ≡ pushdown.opened k i (pushdown.Need (right_of (operator_in op)) (pushdown.InBinary p (operator_in op) t ∷ k))

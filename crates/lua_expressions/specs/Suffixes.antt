@@ -6,7 +6,7 @@ use Rattle.lua_grammar.specs.Operators.{Operator, level, left_of, right_of}
 use Rattle.lua_grammar.specs.Pushdown as pushdown
 use Rattle.lua_expressions.specs.declared.suffix.Suffix.{Suffix}
 use Rattle.lua_expressions.specs.declared.suffix.Suffix.TheVariants as suffix
-use Rattle.lua_frames.specs.Shown.{operator_in}
+use Rattle.lua_parser_state.specs.Shown.{operator_in}
 
 -- The operator, if it goes on with an expression of this level.
 abbrev pub chosen : (limit had : ℕ) → Option Operator → Option Operator

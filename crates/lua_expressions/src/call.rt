@@ -6,14 +6,14 @@ ghost use Rattle.lua_ast.specs.Decode.{list_of, fields_of, AllBelow};
 ghost use Rattle.lua_grammar.specs.Signs.{token};
 ghost use Rattle.lua_lexer.specs.declared.token.TokenKind.TheVariants.{Text};
 ghost use Rattle.lua_grammar.specs.Pushdown.{Have, call_of, args_begin, made, field_done};
-ghost use Rattle.lua_frames.specs.Shown.{tree_in, stack_in, state_in, callee_in, purpose_in, attributes, CalleeBelow, TableBelow, StateBelow};
-ghost use Rattle.lua_frames.specs.Gave.{Gave};
+ghost use Rattle.lua_parser_state.specs.Shown.{tree_in, stack_in, state_in, callee_in, purpose_in, attributes, CalleeBelow, TableBelow, StateBelow};
+ghost use Rattle.lua_parser_state.specs.Gave.{Gave};
 ghost use Rattle.lua_ast.specs.Weights.{list_weight};
-ghost use Rattle.lua_frames.specs.Weights.{Spends, callee_weight, table_weight};
+ghost use Rattle.lua_parser_state.specs.Weights.{Spends, callee_weight, table_weight};
 
 use lua_ast::{AstText, Fields, Ids, Literal, Node, NodeId};
-use lua_frames::{BegunTable, Callee, Parser, Purpose, Refusal, State};
 use lua_lexer::{TokenKind, text_value};
+use lua_parser_state::{BegunTable, Callee, Parser, Purpose, Refusal, State};
 use std::alloc::AllocError;
 
 /// Adds the node of a call with these arguments.
@@ -38,7 +38,7 @@ pub fn call(parser: &mut Parser, limit: u8, callee: Callee, args: Ids) -> Result
 }
 
 /// Adds the node of a call with one argument.
-#[tactic(auto, using(lua_frames::proofs::Lists::one_of))]
+#[tactic(auto, using(lua_parser_state::proofs::Lists::one_of))]
 pub fn call_with(
     parser: &mut Parser,
     limit: u8,
@@ -58,7 +58,7 @@ pub fn call_with(
 }
 
 /// Adds the nodes of a text and of the call whose argument it is.
-#[tactic(auto, unfolding(lua_grammar::specs::Values::text_of), using(lua_frames::proofs::Nodes::below_callee))]
+#[tactic(auto, unfolding(lua_grammar::specs::Values::text_of), using(lua_parser_state::proofs::Nodes::below_callee))]
 fn call_with_text(
     parser: &mut Parser,
     limit: u8,
@@ -112,7 +112,7 @@ pub fn args_begin(
 }
 
 /// Adds the node of a table constructor, and that of the call whose argument it is.
-#[tactic(auto, using(lua_frames::proofs::Nodes::below_callee))]
+#[tactic(auto, using(lua_parser_state::proofs::Nodes::below_callee))]
 pub fn finish_table(parser: &mut Parser, table: BegunTable) -> Result<State, AllocError>
     requires { TableBelow (length parser.old.nodes) table }
     ensures state { IfOk result (λ s. state_in parser.new.nodes (stack_in parser.new) s

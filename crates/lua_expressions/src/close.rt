@@ -3,16 +3,16 @@
 ghost use Rattle.std.specs.Prelude.{◌+◌, ◌<◌, [], true, false, length, Some, ◌≡◌, IfOk, OnOk};
 ghost use Rattle.lua_ast.specs.Decode.{list_of, fields_of, AllBelow};
 ghost use Rattle.lua_grammar.specs.Pushdown.{InParen, InIndex, InArgs, InKey, close};
-ghost use Rattle.lua_frames.specs.Shown.{tree_in, stack_in, callee_in, purpose_in, attributes, CalleeBelow, TableBelow, operator_in};
-ghost use Rattle.lua_frames.specs.Gave.{Gave, terminal_of};
+ghost use Rattle.lua_parser_state.specs.Shown.{tree_in, stack_in, callee_in, purpose_in, attributes, CalleeBelow, TableBelow, operator_in};
+ghost use Rattle.lua_parser_state.specs.Gave.{Gave, terminal_of};
 ghost use Rattle.lua_ast.specs.Weights.{list_weight};
-ghost use Rattle.lua_frames.specs.Weights.{Spends, callee_weight, table_weight, Balances};
+ghost use Rattle.lua_parser_state.specs.Weights.{Spends, callee_weight, table_weight, Balances};
 ghost use Rattle.lua_grammar.specs.Operators.{joined};
 
 use crate::call::call;
 use lua_ast::{Ids, Node, NodeId};
-use lua_frames::{BegunTable, Callee, Frame, Operation, Parser, Refusal, State};
 use lua_lexer::TokenKind;
+use lua_parser_state::{BegunTable, Callee, Frame, Operation, Parser, Refusal, State};
 use std::alloc::AllocError;
 
 /// Reads the `)` behind an expression in parentheses, and adds its node.
@@ -62,7 +62,7 @@ pub fn close_index(
 }
 
 /// Appends an argument, and reads the `,` or `)` behind it.
-#[tactic(auto, using(lua_ast::proofs::Growing::list_of_push, lua_ast::proofs::PlacesBelow::below_push, lua_frames::proofs::Weighing::list_push))]
+#[tactic(auto, using(lua_ast::proofs::Growing::list_of_push, lua_ast::proofs::PlacesBelow::below_push, lua_parser_state::proofs::Weighing::list_push))]
 pub fn close_args(
     parser: &mut Parser,
     limit: u8,

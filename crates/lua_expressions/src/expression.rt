@@ -3,14 +3,14 @@
 ghost use Rattle.std.specs.Prelude.{[], true, false, Some, None, ◌∷◌, length};
 ghost use Rattle.lua_grammar.specs.Signs.{token};
 ghost use Rattle.lua_grammar.specs.Pushdown.{begin, begin_unary};
-ghost use Rattle.lua_frames.specs.Shown.{stack_in, attributes, frame_in, FrameBelow};
-ghost use Rattle.lua_frames.specs.Gave.{Gave, IsSmall};
-ghost use Rattle.lua_frames.specs.Weights.{Spends, frame_weight};
+ghost use Rattle.lua_parser_state.specs.Shown.{stack_in, attributes, frame_in, FrameBelow};
+ghost use Rattle.lua_parser_state.specs.Gave.{Gave, IsSmall};
+ghost use Rattle.lua_parser_state.specs.Weights.{Spends, frame_weight};
 
 use crate::literal::{literal, unary_operator};
 use lua_ast::{AstText, Fields, Node, UnOp};
-use lua_frames::{BegunTable, Frame, Head, Parser, Purpose, Refusal, State};
 use lua_lexer::TokenKind;
+use lua_parser_state::{BegunTable, Frame, Head, Parser, Purpose, Refusal, State};
 
 /// Reads the first token of an expression of at least this level.
 #[tactic(auto, unfolding(lua_ast::specs::Decode::fields_of))]

@@ -4,19 +4,19 @@ ghost use Rattle.std.specs.Prelude.{◌+◌, ◌<◌, true, false, length, Some,
 ghost use Rattle.lua_ast.specs.Decode.{fields_of, with_field, FieldBelow};
 ghost use Rattle.lua_grammar.specs.Signs.{token};
 ghost use Rattle.lua_grammar.specs.Pushdown.{args_open, field_next, field_done, key_end};
-ghost use Rattle.lua_frames.specs.Shown.{tree_in, stack_in, callee_in, purpose_in, attributes, CalleeBelow, TableBelow};
-ghost use Rattle.lua_frames.specs.Gave.{Gave, IsSmall, terminal_of};
+ghost use Rattle.lua_parser_state.specs.Shown.{tree_in, stack_in, callee_in, purpose_in, attributes, CalleeBelow, TableBelow};
+ghost use Rattle.lua_parser_state.specs.Gave.{Gave, IsSmall, terminal_of};
 ghost use Rattle.lua_ast.specs.Weights.{field_weight};
-ghost use Rattle.lua_frames.specs.Weights.{Spends, callee_weight, table_weight};
+ghost use Rattle.lua_parser_state.specs.Weights.{Spends, callee_weight, table_weight};
 
 use crate::call::{call, field_done, finish_table};
 use crate::expression::begin_in;
 use lua_ast::{AstText, Field, Ids, NodeId};
-use lua_frames::{BegunTable, Callee, Frame, Parser, Refusal, State};
 use lua_lexer::TokenKind;
+use lua_parser_state::{BegunTable, Callee, Frame, Parser, Refusal, State};
 
 /// Reads the first token of the first argument, or `)`.
-#[tactic(auto, using(lua_frames::proofs::Lists::list_of_none))]
+#[tactic(auto, using(lua_parser_state::proofs::Lists::list_of_none))]
 pub fn args_open(
     parser: &mut Parser,
     limit: u8,
@@ -106,7 +106,7 @@ pub fn key_end(
 }
 
 /// Appends a field to those of its table, and reads the token behind it.
-#[tactic(auto, using(lua_ast::proofs::Growing::fields_of_push, lua_ast::proofs::PlacesBelow::fields_below_push, lua_frames::proofs::Weighing::fields_push))]
+#[tactic(auto, using(lua_ast::proofs::Growing::fields_of_push, lua_ast::proofs::PlacesBelow::fields_below_push, lua_parser_state::proofs::Weighing::fields_push))]
 pub fn field_over(
     parser: &mut Parser,
     mut table: BegunTable,

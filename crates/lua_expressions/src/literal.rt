@@ -3,7 +3,7 @@
 ghost use Rattle.std.specs.Prelude.{◌≡◌, IfOk};
 ghost use Rattle.lua_grammar.specs.Signs.{token};
 ghost use Rattle.lua_grammar.specs.Operators.{constant_of, unary_of};
-ghost use Rattle.lua_frames.specs.Gave.{IsSmall};
+ghost use Rattle.lua_parser_state.specs.Gave.{IsSmall};
 
 use lua_ast::{AstText, Literal, UnOp};
 use lua_lexer::{TokenKind, numeral_value, text_value};

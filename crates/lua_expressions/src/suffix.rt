@@ -4,18 +4,18 @@ ghost use Rattle.std.specs.Prelude.{◌≡◌, ◌<◌, true, false, length, Som
 ghost use Rattle.lua_grammar.specs.Signs.{token};
 ghost use Rattle.lua_grammar.specs.Operators.{operator_of};
 ghost use Rattle.lua_grammar.specs.Grammar.{is_prefix};
-ghost use Rattle.lua_frames.specs.Shown.{tree_in, stack_in, operator_in, attributes};
-ghost use Rattle.lua_frames.specs.Gave.{Gave, terminal_of};
+ghost use Rattle.lua_parser_state.specs.Shown.{tree_in, stack_in, operator_in, attributes};
+ghost use Rattle.lua_parser_state.specs.Gave.{Gave, terminal_of};
 ghost use Rattle.lua_expressions.specs.Suffixes.{IsSuffix, chosen, extended};
-ghost use Rattle.lua_frames.specs.Weights.{Spends};
+ghost use Rattle.lua_parser_state.specs.Weights.{Spends};
 
 use crate::call::args_begin;
 use lua_ast::NodeId;
-use lua_frames::{
+use lua_lexer::TokenKind;
+use lua_parser_state::{
     Callee, Frame, Naming, Operation, Parser, Refusal, State, left_level, level, operation,
     right_level,
 };
-use lua_lexer::TokenKind;
 
 /// What goes on with an expression.
 #[derive(Clone, Copy, Drop)]

@@ -3,14 +3,14 @@
 ghost use Rattle.std.specs.Prelude.{◌+◌, ◌≡◌, ◌<◌, ◌∷◌, ◌++◌, [], true, false, length, IfOk};
 ghost use Rattle.lua_grammar.specs.Signs.{token};
 ghost use Rattle.lua_grammar.specs.Pushdown.{after_name, name_next, ForFunction};
-ghost use Rattle.lua_frames.specs.Shown.{tree_in, stack_in, state_in, begun_in, naming_in, attributes, BegunBelow, NamingBelow, StateBelow};
+ghost use Rattle.lua_parser_state.specs.Shown.{tree_in, stack_in, state_in, begun_in, naming_in, attributes, BegunBelow, NamingBelow, StateBelow};
 ghost use Rattle.lua_names.specs.Paths.{after_path};
-ghost use Rattle.lua_frames.specs.Gave.{Gave};
-ghost use Rattle.lua_frames.specs.Weights.{Spends, begun_weight, naming_weight};
+ghost use Rattle.lua_parser_state.specs.Gave.{Gave};
+ghost use Rattle.lua_parser_state.specs.Weights.{Spends, begun_weight, naming_weight};
 
 use lua_ast::{AstText, AstTexts, Node, NodeId};
-use lua_frames::{Begun, Callee, Head, Naming, Parser, Refusal, State};
 use lua_lexer::TokenKind;
+use lua_parser_state::{Begun, Callee, Head, Naming, Parser, Refusal, State};
 use std::alloc::AllocError;
 
 /// These names and one more.

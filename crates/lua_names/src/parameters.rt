@@ -4,17 +4,17 @@ ghost use Rattle.std.specs.Prelude.{◌+◌, ◌≡◌, ◌<◌, ◌∷◌, [], 
 ghost use Rattle.lua_ast.specs.Tree.{Function};
 ghost use Rattle.lua_grammar.specs.Signs.{token};
 ghost use Rattle.lua_grammar.specs.Pushdown.{BlockNext, InFunction, depth, body_next, path_next, param_first, param_next, param_names, params_end};
-ghost use Rattle.lua_frames.specs.Shown.{tree_in, stack_in, state_in, begun_in, head_in, attributes, BegunBelow, HeadBelow, StateBelow};
-ghost use Rattle.lua_frames.specs.Gave.{Gave, within};
-ghost use Rattle.lua_frames.specs.Weights.{Spends, StepsOnce, begun_weight, head_weight};
+ghost use Rattle.lua_parser_state.specs.Shown.{tree_in, stack_in, state_in, begun_in, head_in, attributes, BegunBelow, HeadBelow, StateBelow};
+ghost use Rattle.lua_parser_state.specs.Gave.{Gave, within};
+ghost use Rattle.lua_parser_state.specs.Weights.{Spends, StepsOnce, begun_weight, head_weight};
 
 use lua_ast::{AstText, NodeId};
-use lua_frames::{Begun, Frame, Head, Naming, OpenBlock, Parser, Refusal, State};
 use lua_lexer::TokenKind;
+use lua_parser_state::{Begun, Frame, Head, Naming, OpenBlock, Parser, Refusal, State};
 use std::alloc::AllocError;
 
 /// This state, if there is room for two levels more.
-#[tactic(auto, using(lua_frames::proofs::Rooms::within_room, lua_frames::proofs::Rooms::within_deep))]
+#[tactic(auto, using(lua_parser_state::proofs::Rooms::within_room, lua_parser_state::proofs::Rooms::within_deep))]
 fn deepen_twice(parser: &Parser, state: State) -> Result<State, Refusal>
     requires { StateBelow (length parser.now.nodes) state }
     ensures gave { Gave (within (suc (suc (depth (stack_in parser.now)))) (state_in parser.now.nodes (stack_in parser.now) state))

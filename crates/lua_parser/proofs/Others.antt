@@ -6,9 +6,9 @@ use Rattle.lua_lexer.specs.declared.token.TokenKind.TheVariants as kind
 use Rattle.lua_grammar.specs.Signs.{Terminal, Attributes, token}
 use Rattle.lua_grammar.specs.Pushdown as pushdown
 use Rattle.lua_ast.specs.declared.node.LinedNode.{LinedNode}
-use Rattle.lua_frames.specs.declared.frame.OpenBlock.{OpenBlock}
-use Rattle.lua_frames.specs.declared.frame.OpenBlock.TheVariants as block
-use Rattle.lua_frames.specs.Shown.{block_in}
+use Rattle.lua_parser_state.specs.declared.frame.OpenBlock.{OpenBlock}
+use Rattle.lua_parser_state.specs.declared.frame.OpenBlock.TheVariants as block
+use Rattle.lua_parser_state.specs.Shown.{block_in}
 
 pub field_name_other : (u : pushdown.Purpose) (l : ℕ) (fs : tree.Fields) (own : ℕ) (n : List ℕ) (k : List pushdown.Frame) (x : TokenKind) (i : Attributes) → (x ≡ kind.Assign → ⊥) →
     pushdown.field_name u l fs own n k (token x) i ≡ pushdown.follow (pushdown.InItem u l fs ∷ k) 0 (tree.Name 0 own n) (token x) i

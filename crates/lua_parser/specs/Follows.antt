@@ -4,14 +4,14 @@ use Rattle.lua_parser.specs.declared.follow.Folded.{Folded}
 use Rattle.lua_parser.specs.declared.follow.Folded.TheVariants as folded
 use Rattle.lua_parser.specs.declared.follow.Followed.{Followed}
 use Rattle.lua_parser.specs.declared.follow.Followed.TheVariants as followed
-use Rattle.lua_frames.specs.Shown.{Held, attributes, tree_in, stack_in, frame_in, FrameBelow}
-use Rattle.lua_frames.specs.Weights.{spent_weight, made_weight, frame_weight, Balances, accounted}
+use Rattle.lua_parser_state.specs.Shown.{Held, attributes, tree_in, stack_in, frame_in, FrameBelow}
+use Rattle.lua_parser_state.specs.Weights.{spent_weight, made_weight, frame_weight, Balances, accounted}
 use Rattle.lua_ast.specs.declared.node.LinedNode.{LinedNode}
 use Rattle.lua_ast.specs.Tree.{Tree}
 use Rattle.lua_grammar.specs.Signs.{Terminal, Attributes}
 use Rattle.lua_grammar.specs.Pushdown as pushdown
-use Rattle.lua_frames.specs.declared.refusal.Refusal.{Refusal}
-use Rattle.lua_frames.specs.Gave.{Gave, Refuses}
+use Rattle.lua_parser_state.specs.declared.refusal.Refusal.{Refusal}
+use Rattle.lua_parser_state.specs.Gave.{Gave, Refuses}
 
 -- What was begun goes on so, where the expression t is over.
 abbrev pub Folds : List pushdown.Frame → Tree → Folded → Held → Type 0

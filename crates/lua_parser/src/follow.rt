@@ -4,10 +4,10 @@ ghost use Rattle.std.specs.Prelude.{◌+◌, ◌<◌, true, false, length, Some,
 ghost use Rattle.lua_grammar.specs.Pushdown.{close, follow, rest, field_name};
 ghost use Rattle.lua_grammar.specs.Signs.{token};
 ghost use Rattle.lua_ast.specs.Decode.{fields_of};
-ghost use Rattle.lua_frames.specs.Shown.{tree_in, stack_in, frame_in, purpose_in, attributes, TableBelow, FrameBelow};
-ghost use Rattle.lua_frames.specs.Gave.{Gave, terminal_of};
+ghost use Rattle.lua_parser_state.specs.Shown.{tree_in, stack_in, frame_in, purpose_in, attributes, TableBelow, FrameBelow};
+ghost use Rattle.lua_parser_state.specs.Gave.{Gave, terminal_of};
 ghost use Rattle.lua_parser.specs.Follows.{Folds, IsKept, IsFewer, Follows, FoldsOnce, FollowsOnce};
-ghost use Rattle.lua_frames.specs.Weights.{Spends, frame_weight, table_weight};
+ghost use Rattle.lua_parser_state.specs.Weights.{Spends, frame_weight, table_weight};
 
 use lua_ast::{AstText, Field, Node, NodeId};
 use lua_blocks::close_in_header;
@@ -15,8 +15,8 @@ use lua_expressions::{
     close_args, close_index, close_key, close_paren, extend, field_over, finish_operation,
     suffix_at,
 };
-use lua_frames::{BegunTable, Frame, Operation, Parser, Refusal, State};
 use lua_lexer::TokenKind;
+use lua_parser_state::{BegunTable, Frame, Operation, Parser, Refusal, State};
 use lua_statements::close_in_statement;
 use std::alloc::AllocError;
 

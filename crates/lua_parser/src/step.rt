@@ -3,25 +3,25 @@
 ghost use Rattle.std.specs.Prelude.{[], true, false, length, Some, None};
 ghost use Rattle.lua_grammar.specs.Signs.{token, end};
 ghost use Rattle.lua_grammar.specs.Pushdown.{begun, next, step_from};
-ghost use Rattle.lua_frames.specs.Shown.{stack_in, state_in, attributes, StateBelow};
-ghost use Rattle.lua_frames.specs.Gave.{Gave, IsSmall, terminal_of};
-ghost use Rattle.lua_frames.specs.Weights.{Spends, StepsOnce};
+ghost use Rattle.lua_parser_state.specs.Shown.{stack_in, state_in, attributes, StateBelow};
+ghost use Rattle.lua_parser_state.specs.Gave.{Gave, IsSmall, terminal_of};
+ghost use Rattle.lua_parser_state.specs.Weights.{Spends, StepsOnce};
 
 use crate::follow::{field_name, follow};
 use lua_ast::Ids;
 use lua_blocks::end_block;
 use lua_expressions::{args_begin, args_open, begin, field_next, key_end};
-use lua_frames::{Begun, Parser, Refusal, State};
 use lua_lexer::TokenKind;
 use lua_names::{
     body_next, name_next, param_first, param_names, param_next, params_end, path_next,
 };
+use lua_parser_state::{Begun, Parser, Refusal, State};
 use lua_statements::{
     for_name, for_names, label_end, local_names, local_next, next, return_next, target_next,
 };
 
 /// Reads the first token of a block, or the end of one without statements.
-#[tactic(auto, using(lua_frames::proofs::Lists::list_of_none))]
+#[tactic(auto, using(lua_parser_state::proofs::Lists::list_of_none))]
 fn block_next(
     parser: &mut Parser,
     kind: Option<TokenKind>,
@@ -42,37 +42,35 @@ pub fn step(
     parser: &mut Parser,
     state: State,
     kind: TokenKind,
-    line: u32,
+    here: u32,
     slice: &[u8],
 ) -> Result<State, Refusal>
     requires state { StateBelow (length parser.old.nodes) state }
     requires small { IsSmall kind slice.now }
     ensures gave { Gave
-        (step_from (state_in parser.old.nodes (stack_in parser.old) state) (token kind) (attributes true line slice.now))
-        (step_from (state_in parser.old.nodes (stack_in parser.old) state) (token kind) (attributes false line slice.now))
+        (step_from (state_in parser.old.nodes (stack_in parser.old) state) (token kind) (attributes true here slice.now))
+        (step_from (state_in parser.old.nodes (stack_in parser.old) state) (token kind) (attributes false here slice.now))
         result parser.new }
     ensures once { StepsOnce state parser.old result parser.new }
 {
     match state {
-        State::Need { limit } => begin(parser, limit, kind, line, slice),
-        State::Have { limit, node } => follow(parser, limit, node, Some(kind), line, slice),
-        State::NameNext { naming } => name_next(parser, naming, kind, line, slice),
-        State::ArgsNext { limit, callee } => args_begin(parser, limit, callee, kind, line, slice),
-        State::ArgsOpen { limit, callee } => args_open(parser, limit, callee, kind, line, slice),
-        State::FieldNext { table } => field_next(parser, table, kind, line, slice),
+        State::Need { limit } => begin(parser, limit, kind, here, slice),
+        State::Have { limit, node } => follow(parser, limit, node, Some(kind), here, slice),
+        State::NameNext { naming } => name_next(parser, naming, kind, here, slice),
+        State::ArgsNext { limit, callee } => args_begin(parser, limit, callee, kind, here, slice),
+        State::ArgsOpen { limit, callee } => args_open(parser, limit, callee, kind, here, slice),
+        State::FieldNext { table } => field_next(parser, table, kind, here, slice),
         State::FieldName { table, own, name } => {
-            field_name(parser, table, own, name, kind, line, slice)
+            field_name(parser, table, own, name, kind, here, slice)
         }
         State::KeyEnd { table, key } => key_end(parser, table, key, kind),
-        State::BlockNext => block_next(parser, Some(kind), line, slice),
-        State::StatNext { block } => next(parser, block, Some(kind), line, slice),
+        State::BlockNext => block_next(parser, Some(kind), here, slice),
+        State::StatNext { block } => next(parser, block, Some(kind), here, slice),
         State::LabelEnd { line, name, block } => label_end(parser, line, name, block, kind),
-        State::LocalNext { line: own, block } => local_next(parser, own, block, kind, line, slice),
-        State::LocalNames {
-            line: own,
-            names,
-            block,
-        } => local_names(parser, own, names, block, Some(kind), line, slice),
+        State::LocalNext { line, block } => local_next(parser, line, block, kind, here, slice),
+        State::LocalNames { line, names, block } => {
+            local_names(parser, line, names, block, Some(kind), here, slice)
+        }
         State::LoopName { line, name, block } => for_name(parser, line, name, block, kind),
         State::LoopNames { line, names, block } => for_names(parser, line, names, block, kind),
         State::PathNext { line, path, block } => path_next(parser, line, path, block, kind),
@@ -82,12 +80,12 @@ pub fn step(
         State::ParamNames { head, params } => param_names(parser, head, params, kind),
         State::ParamsEnd { head, params } => params_end(parser, head, params, kind),
         State::TargetNext {
-            line: own,
+            line,
             targets,
             block,
-        } => target_next(parser, own, targets, block, kind, line, slice),
-        State::ReturnNext { line: own, block } => {
-            return_next(parser, own, block, Some(kind), line, slice)
+        } => target_next(parser, line, targets, block, kind, here, slice),
+        State::ReturnNext { line, block } => {
+            return_next(parser, line, block, Some(kind), here, slice)
         }
         State::BlockEnd { block } => end_block(parser, block, Some(kind)),
         State::Done { .. } => Err(Refusal::Unexpected),
@@ -107,12 +105,16 @@ pub fn end(parser: &mut Parser, state: State) -> Result<State, Refusal>
         State::Have { limit, node } => follow(parser, limit, node, None, 1, &[]),
         State::BlockNext => block_next(parser, None, 1, &[]),
         State::StatNext { block } => next(parser, block, None, 1, &[]),
-        State::LocalNames {
-            line: own,
+        State::LocalNames { line, names, block } => local_names(
+            parser,
+            line,
             names,
             block,
-        } => local_names(parser, own, names, block, None, 1, &[]),
-        State::ReturnNext { line: own, block } => return_next(parser, own, block, None, 1, &[]),
+            None,
+            1,
+            &[],
+        ),
+        State::ReturnNext { line, block } => return_next(parser, line, block, None, 1, &[]),
         State::BlockEnd { block } => end_block(parser, block, None),
         _ => Err(Refusal::Unexpected),
     }

@@ -6,9 +6,9 @@ use Rattle.lua_lexer.specs.declared.token.TokenKind.TheVariants as kind
 use Rattle.lua_grammar.specs.Signs.{Terminal, Attributes, token}
 use Rattle.lua_grammar.specs.Pushdown as pushdown
 use Rattle.lua_grammar.specs.Kinds as kinds
-use Rattle.lua_frames.specs.Shown.{attributes}
+use Rattle.lua_parser_state.specs.Shown.{attributes}
 use Rattle.lua_statements.specs.Statements.{next_block}
-use Rattle.lua_frames.proofs.Ends.{end_at}
+use Rattle.lua_parser_state.proofs.Ends.{end_at}
 
 pub next_block_other : (b : pushdown.Begun) (k : List pushdown.Frame) (x : TokenKind) (i : Attributes) → (x ≡ kind.Do → ⊥) → (x ≡ kind.While → ⊥) → (x ≡ kind.Repeat → ⊥) → (x ≡ kind.If → ⊥) → next_block b k (token x) i ≡ pushdown.end_block k (pushdown.block_of b) (token x) i
 next_block_other b k kind.Do i h0 h1 h2 h3 = absurd (h0 refl)

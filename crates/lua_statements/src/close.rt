@@ -3,16 +3,16 @@
 ghost use Rattle.std.specs.Prelude.{◌+◌, ◌<◌, [], true, false, length, Some, None};
 ghost use Rattle.lua_ast.specs.Decode.{list_of, AllBelow};
 ghost use Rattle.lua_grammar.specs.Pushdown.{InTargets, InLocal, InAssign, InReturn, InStat, InUntil, close};
-ghost use Rattle.lua_frames.specs.Shown.{tree_in, stack_in, begun_in, statement_in, attributes, BegunBelow, StatementBelow};
-ghost use Rattle.lua_frames.specs.Gave.{Gave, terminal_of};
+ghost use Rattle.lua_parser_state.specs.Shown.{tree_in, stack_in, begun_in, statement_in, attributes, BegunBelow, StatementBelow};
+ghost use Rattle.lua_parser_state.specs.Gave.{Gave, terminal_of};
 ghost use Rattle.lua_statements.specs.Statements.{call_statement};
 ghost use Rattle.lua_ast.specs.Weights.{list_weight};
-ghost use Rattle.lua_frames.specs.Weights.{Spends, begun_weight, statement_weight};
+ghost use Rattle.lua_parser_state.specs.Weights.{Spends, begun_weight, statement_weight};
 
 use crate::statement::{end_after, next_after};
 use lua_ast::{AstTexts, Ids, Node, NodeId};
-use lua_frames::{Begun, Frame, OpenStatement, Parser, Refusal, State};
 use lua_lexer::TokenKind;
+use lua_parser_state::{Begun, Frame, OpenStatement, Parser, Refusal, State};
 
 /// Reads the token behind an expression of a statement.
 pub fn close_in_statement(
@@ -89,7 +89,7 @@ fn close_until(
 }
 
 /// Appends an expression to those of a `local`, and reads the token behind it.
-#[tactic(auto, using(lua_ast::proofs::Growing::list_of_push, lua_ast::proofs::PlacesBelow::below_push, lua_frames::proofs::Weighing::list_push))]
+#[tactic(auto, using(lua_ast::proofs::Growing::list_of_push, lua_ast::proofs::PlacesBelow::below_push, lua_parser_state::proofs::Weighing::list_push))]
 fn close_local(
     parser: &mut Parser,
     own: u32,
@@ -133,7 +133,7 @@ fn close_local(
 }
 
 /// Appends an expression to those of an assignment, and reads the token behind it.
-#[tactic(auto, using(lua_ast::proofs::Growing::list_of_push, lua_ast::proofs::PlacesBelow::below_push, lua_frames::proofs::Weighing::list_push))]
+#[tactic(auto, using(lua_ast::proofs::Growing::list_of_push, lua_ast::proofs::PlacesBelow::below_push, lua_parser_state::proofs::Weighing::list_push))]
 fn close_assign(
     parser: &mut Parser,
     own: u32,
@@ -178,7 +178,7 @@ fn close_assign(
 }
 
 /// Appends an expression to those of a `return`, and reads the token behind it.
-#[tactic(auto, using(lua_ast::proofs::Growing::list_of_push, lua_ast::proofs::PlacesBelow::below_push, lua_frames::proofs::Weighing::list_push))]
+#[tactic(auto, using(lua_ast::proofs::Growing::list_of_push, lua_ast::proofs::PlacesBelow::below_push, lua_parser_state::proofs::Weighing::list_push))]
 fn close_return(
     parser: &mut Parser,
     own: u32,
@@ -218,7 +218,7 @@ fn close_return(
 }
 
 /// Reads the token behind the first target of an assignment, or behind a call that is a statement.
-#[tactic(auto, using(lua_frames::proofs::Lists::one_of, lua_frames::proofs::Lists::list_of_none))]
+#[tactic(auto, using(lua_parser_state::proofs::Lists::one_of, lua_parser_state::proofs::Lists::list_of_none))]
 fn close_prefix(
     parser: &mut Parser,
     block: Begun,
@@ -305,7 +305,7 @@ fn close_target(
 }
 
 /// Appends a target to those of an assignment, and reads the `=` or `,` behind it.
-#[tactic(auto, using(lua_ast::proofs::Growing::list_of_push, lua_ast::proofs::PlacesBelow::below_push, lua_frames::proofs::Lists::list_of_none, lua_frames::proofs::Weighing::list_push))]
+#[tactic(auto, using(lua_ast::proofs::Growing::list_of_push, lua_ast::proofs::PlacesBelow::below_push, lua_parser_state::proofs::Lists::list_of_none, lua_parser_state::proofs::Weighing::list_push))]
 fn add_target(
     parser: &mut Parser,
     own: u32,

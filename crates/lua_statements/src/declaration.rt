@@ -4,16 +4,16 @@ ghost use Rattle.std.specs.Prelude.{◌≡◌, ◌∷◌, [], true, false, lengt
 ghost use Rattle.lua_lexer.specs.declared.token.TokenKind.TheVariants.{In};
 ghost use Rattle.lua_grammar.specs.Signs.{token};
 ghost use Rattle.lua_grammar.specs.Pushdown.{local_next, local_names, for_name, for_names};
-ghost use Rattle.lua_frames.specs.Shown.{stack_in, begun_in, attributes, BegunBelow};
-ghost use Rattle.lua_frames.specs.Gave.{Gave, terminal_of};
-ghost use Rattle.lua_frames.specs.Weights.{Spends, begun_weight};
+ghost use Rattle.lua_parser_state.specs.Shown.{stack_in, begun_in, attributes, BegunBelow};
+ghost use Rattle.lua_parser_state.specs.Gave.{Gave, terminal_of};
+ghost use Rattle.lua_parser_state.specs.Weights.{Spends, begun_weight};
 
 use crate::statement::next_after;
 use lua_ast::{AstText, AstTexts, Ids, Node};
-use lua_frames::{
+use lua_lexer::TokenKind;
+use lua_parser_state::{
     Begun, Frame, GenericFor, Naming, OpenHeader, OpenStatement, Parser, Refusal, State,
 };
-use lua_lexer::TokenKind;
 use std::alloc::AllocError;
 
 /// Reads the token behind `local`, which stands on the line `own`.
@@ -64,7 +64,7 @@ fn one_name(parser: &Parser, slice: &[u8]) -> Result<AstTexts, AllocError>
 }
 
 /// Reads the token behind a name of a `local`, which stands on the line `own`.
-#[tactic(auto, using(lua_frames::proofs::Lists::list_of_none))]
+#[tactic(auto, using(lua_parser_state::proofs::Lists::list_of_none))]
 pub fn local_names(
     parser: &mut Parser,
     own: u32,
@@ -112,7 +112,7 @@ pub fn local_names(
 }
 
 /// Reads the token behind the first name of a `for`.
-#[tactic(auto, using(lua_frames::proofs::Lists::list_of_none))]
+#[tactic(auto, using(lua_parser_state::proofs::Lists::list_of_none))]
 pub fn for_name(
     parser: &mut Parser,
     line: u32,
@@ -173,7 +173,7 @@ pub fn for_names(
 }
 
 /// Puts a `for` over iterators on top, and asks for the expressions behind `in`.
-#[tactic(auto, using(lua_frames::proofs::Lists::list_of_none))]
+#[tactic(auto, using(lua_parser_state::proofs::Lists::list_of_none))]
 fn begin_iterator(
     parser: &mut Parser,
     line: u32,

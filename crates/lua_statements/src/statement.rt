@@ -5,22 +5,22 @@ ghost use Rattle.lua_ast.specs.Decode.{PartsBelow, node_tree, list_of, AllBelow}
 ghost use Rattle.lua_lexer.specs.declared.token.TokenKind.TheVariants.{In};
 ghost use Rattle.lua_grammar.specs.Signs.{token};
 ghost use Rattle.lua_grammar.specs.Pushdown.{add, next, end_block, block_of, begin, label_end, target_next, return_next};
-ghost use Rattle.lua_frames.specs.Shown.{tree_in, stack_in, begun_in, statement_in, attributes, BegunBelow, StatementBelow};
-ghost use Rattle.lua_frames.specs.Gave.{Gave, IsSmallSign, terminal_of};
+ghost use Rattle.lua_parser_state.specs.Shown.{tree_in, stack_in, begun_in, statement_in, attributes, BegunBelow, StatementBelow};
+ghost use Rattle.lua_parser_state.specs.Gave.{Gave, IsSmallSign, terminal_of};
 ghost use Rattle.lua_statements.specs.Statements.{begin_prefix, next_block};
 ghost use Rattle.lua_ast.specs.Weights.{list_weight, parts_weight};
-ghost use Rattle.lua_frames.specs.Weights.{Spends, begun_weight, statement_weight};
+ghost use Rattle.lua_parser_state.specs.Weights.{Spends, begun_weight, statement_weight};
 
 use lua_ast::{AstText, Ids, Node};
 use lua_blocks::end_block;
 use lua_expressions::begin_in;
-use lua_frames::{
+use lua_lexer::TokenKind;
+use lua_parser_state::{
     Begun, Frame, Naming, OpenBlock, OpenHeader, OpenStatement, Parser, Refusal, State,
 };
-use lua_lexer::TokenKind;
 
 /// Puts a statement on top, and reads the first token of the prefix that it goes on with: a name or `(`.
-#[tactic(auto, using(lua_frames::proofs::Nodes::lift_statement))]
+#[tactic(auto, using(lua_parser_state::proofs::Nodes::lift_statement))]
 pub fn begin_prefix(
     parser: &mut Parser,
     statement: OpenStatement,
@@ -113,7 +113,7 @@ fn next_token(
 }
 
 /// Reads the first token of a statement with a block, or one that ends the block.
-#[tactic(auto, using(lua_frames::proofs::Lists::cases_of_none))]
+#[tactic(auto, using(lua_parser_state::proofs::Lists::cases_of_none))]
 fn next_block(
     parser: &mut Parser,
     block: Begun,
@@ -241,7 +241,7 @@ pub fn target_next(
 }
 
 /// Reads the token behind `return`, which stands on the line `own`.
-#[tactic(auto, using(lua_frames::proofs::Lists::list_of_none))]
+#[tactic(auto, using(lua_parser_state::proofs::Lists::list_of_none))]
 pub fn return_next(
     parser: &mut Parser,
     own: u32,

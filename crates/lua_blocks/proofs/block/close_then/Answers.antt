@@ -1,15 +1,15 @@
 use Rattle.std.specs.Prelude.{ℕ, true, false, List, [], ◌∷◌, ◌++◌, ◌+◌}
 use Rattle.std.proofs.Common.{ap, sym, arith, ◌∙◌}
-use Rattle.lua_frames.specs.Shown.{tree_in, stack_in, begun_in, attributes}
+use Rattle.lua_parser_state.specs.Shown.{tree_in, stack_in, begun_in, attributes}
 use Rattle.lua_blocks.specs.Ends.{after_cases}
-use Rattle.lua_frames.specs.Gave.{terminal_of}
-use Rattle.lua_frames.proofs.Steps.{gave_at}
+use Rattle.lua_parser_state.specs.Gave.{terminal_of}
+use Rattle.lua_parser_state.proofs.Steps.{gave_at}
 use Rattle.lua_ast.specs.Tree.{Cases, case}
 use Rattle.lua_ast.specs.Decode.{cases_of}
 use Rattle.lua_ast.proofs.Growing.{cases_of_push}
 use Rattle.lua_ast.specs.Weights.{cases_weight}
-use Rattle.lua_frames.specs.Weights.{begun_weight}
-use Rattle.lua_frames.proofs.Weighing.{cases_push, spends_as}
+use Rattle.lua_parser_state.specs.Weights.{begun_weight}
+use Rattle.lua_parser_state.proofs.Weighing.{cases_push, spends_as}
 use Rattle.lua_blocks.proofs.block.close_then.Goals as goal
 
 pub returns-clause-gave : goal.returns-clause-gave

@@ -1,4 +1,4 @@
-use Rattle.lua_frames.specs.Shown.{tree_in}
+use Rattle.lua_parser_state.specs.Shown.{tree_in}
 use Rattle.lua_expressions.proofs.Others.{operator_taken}
 use Rattle.lua_expressions.proofs.suffix.suffix_of.Goals as goal
 

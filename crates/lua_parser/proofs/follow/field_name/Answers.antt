@@ -4,8 +4,8 @@ use Rattle.lua_ast.specs.Tree as tree
 use Rattle.lua_ast.specs.Decode.{fields_of}
 use Rattle.lua_grammar.specs.Signs.{token}
 use Rattle.lua_grammar.specs.Pushdown as pushdown
-use Rattle.lua_frames.specs.Shown.{tree_in, stack_in, purpose_in, attributes}
-use Rattle.lua_frames.proofs.Steps.{gave_as}
+use Rattle.lua_parser_state.specs.Shown.{tree_in, stack_in, purpose_in, attributes}
+use Rattle.lua_parser_state.proofs.Steps.{gave_as}
 use Rattle.lua_parser.proofs.Others.{field_name_other}
 use Rattle.lua_parser.proofs.follow.field_name.Goals as goal
 

@@ -1,8 +1,8 @@
 use Rattle.std.specs.Prelude.{◌≡◌, ◌<◌, true, false, length}
 use Rattle.lua_grammar.specs.Pushdown.{follow}
-use Rattle.lua_frames.specs.Shown.{tree_in, stack_in, attributes}
-use Rattle.lua_frames.specs.Weights.{Balances}
-use Rattle.lua_frames.specs.Gave.{terminal_of}
+use Rattle.lua_parser_state.specs.Shown.{tree_in, stack_in, attributes}
+use Rattle.lua_parser_state.specs.Weights.{Balances}
+use Rattle.lua_parser_state.specs.Gave.{terminal_of}
 use Rattle.lua_parser.proofs.follow.follow.Given as goal
 
 -- The sign behind the expression so far is read as it is behind the first one.

@@ -2,10 +2,10 @@ use Rattle.std.specs.Prelude.{◌≡◌, true, false, Bool, []}
 use Rattle.std.proofs.Common.{ap, ◌∙◌}
 use Rattle.lua_ast.specs.Decode.{list_of}
 use Rattle.lua_grammar.specs.Pushdown as pushdown
-use Rattle.lua_frames.specs.declared.frame.OpenStatement.{OpenStatement}
-use Rattle.lua_frames.specs.Shown.{tree_in, stack_in, begun_in, statement_in, attributes}
-use Rattle.lua_frames.specs.Gave.{terminal_of}
-use Rattle.lua_frames.proofs.Steps.{gave_as}
+use Rattle.lua_parser_state.specs.declared.frame.OpenStatement.{OpenStatement}
+use Rattle.lua_parser_state.specs.Shown.{tree_in, stack_in, begun_in, statement_in, attributes}
+use Rattle.lua_parser_state.specs.Gave.{terminal_of}
+use Rattle.lua_parser_state.proofs.Steps.{gave_as}
 use Rattle.lua_statements.proofs.Others.{close_return_at}
 use Rattle.lua_statements.proofs.close.close_in_statement.Goals as goal
 

@@ -2,14 +2,14 @@ use Rattle.std.specs.Prelude.{◌≡◌, true, false}
 use Rattle.std.proofs.Common.{ap, sym, ◌∙◌}
 use Rattle.lua_grammar.specs.Signs.{token}
 use Rattle.lua_grammar.specs.Pushdown as pushdown
-use Rattle.lua_frames.specs.Shown.{tree_in, stack_in, begun_in, attributes}
-use Rattle.lua_frames.specs.Gave.{terminal_of}
-use Rattle.lua_frames.proofs.Steps.{gave_as}
+use Rattle.lua_parser_state.specs.Shown.{tree_in, stack_in, begun_in, attributes}
+use Rattle.lua_parser_state.specs.Gave.{terminal_of}
+use Rattle.lua_parser_state.proofs.Steps.{gave_as}
 use Rattle.lua_ast.specs.Tree as tree
 use Rattle.lua_ast.specs.Tree.{Trees}
 use Rattle.lua_ast.specs.Decode.{list_of}
 use Rattle.lua_grammar.specs.Signs.{Terminal, Attributes}
-use Rattle.lua_frames.proofs.Lists.{list_of_none}
+use Rattle.lua_parser_state.proofs.Lists.{list_of_none}
 use Rattle.lua_statements.proofs.Others.{local_names_other}
 use Rattle.lua_statements.proofs.declaration.local_names.Goals as goal
 

@@ -2,11 +2,11 @@ use Rattle.std.specs.Prelude.{true, false, []}
 use Rattle.std.proofs.Common.{◌∙◌}
 use Rattle.lua_grammar.specs.Signs.{token}
 use Rattle.lua_grammar.specs.Pushdown as pushdown
-use Rattle.lua_frames.specs.Shown.{stack_in, begun_in, attributes}
+use Rattle.lua_parser_state.specs.Shown.{stack_in, begun_in, attributes}
 use Rattle.lua_statements.specs.Statements.{next_block}
-use Rattle.lua_frames.proofs.Steps.{gave_as}
+use Rattle.lua_parser_state.proofs.Steps.{gave_as}
 use Rattle.lua_statements.proofs.Others.{next_block_other}
-use Rattle.lua_frames.proofs.Ends.{end_at}
+use Rattle.lua_parser_state.proofs.Ends.{end_at}
 use Rattle.lua_statements.proofs.statement.next_block.Goals as goal
 
 pub returns-in_default-clause-gave : goal.returns-in_default-clause-gave

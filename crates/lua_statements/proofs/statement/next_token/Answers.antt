@@ -1,9 +1,9 @@
 use Rattle.std.specs.Prelude.{true, false}
 use Rattle.lua_grammar.specs.Signs.{token}
 use Rattle.lua_grammar.specs.Pushdown as pushdown
-use Rattle.lua_frames.specs.Shown.{stack_in, begun_in, attributes}
+use Rattle.lua_parser_state.specs.Shown.{stack_in, begun_in, attributes}
 use Rattle.lua_statements.specs.Statements.{next_block}
-use Rattle.lua_frames.proofs.Steps.{gave_as}
+use Rattle.lua_parser_state.proofs.Steps.{gave_as}
 use Rattle.lua_statements.proofs.Others.{next_other}
 use Rattle.lua_statements.proofs.statement.next_token.Goals as goal
 
