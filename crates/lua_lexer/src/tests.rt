@@ -251,7 +251,7 @@ fn dots_one_behind_another(rt: HostRuntime) {
 #[test]
 fn the_longest_symbol_comes_first(rt: HostRuntime) {
     let alloc = rt.alloc();
-    let cases: [(&[u8], &[(TokenKind, usize, usize, u32)]); 6] = [
+    let cases: [(&[u8], &[(TokenKind, usize, usize, u32)]); 5] = [
         (
             b"[=",
             &[
@@ -273,10 +273,6 @@ fn the_longest_symbol_comes_first(rt: HostRuntime) {
                 (TokenKind::Text, 0, 5, 1),
                 (TokenKind::CloseBracket, 5, 6, 1),
             ],
-        ),
-        (
-            b"~==",
-            &[(TokenKind::NotEqual, 0, 2, 1), (TokenKind::Assign, 2, 3, 1)],
         ),
         (
             b":::",

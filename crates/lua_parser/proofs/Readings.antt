@@ -16,10 +16,10 @@ use Rattle.lua_grammar.specs.Deciding.{step_by, reading_by, reading_from, readin
 use Rattle.lua_grammar.proofs.Decides.{reads, the_reading}
 use Rattle.lua_parser.specs.declared.parse_error.ParseError.{ParseError}
 use Rattle.lua_parser.specs.declared.parse_error.ParseError.TheVariants as error
-use Rattle.lua_parser.specs.declared.refusal.Refusal.{Refusal}
-use Rattle.lua_parser.specs.declared.refusal.Refusal.TheVariants as refusal
-use Rattle.lua_parser.specs.Gave.{Refuses}
-use Rattle.lua_parser.specs.Parsing.{tree_of, HasTree, IsRefusal, IsAnswer, AreFit, refusal_at}
+use Rattle.lua_parser_state.specs.declared.refusal.Refusal.{Refusal}
+use Rattle.lua_parser_state.specs.declared.refusal.Refusal.TheVariants as refusal
+use Rattle.lua_parser_state.specs.Gave.{Refuses}
+use Rattle.lua_parser.specs.Parsing.{tree_of, HasTree, IsRefusal, HasReading, AreFit, refusal_at}
 
 drop_at : (ts : List Token) (i : ℕ) (t : Token) → slice_get ts i ≡ Some t → drop i ts ≡ t ∷ drop (suc i) ts
 drop_at [] zero t h = absurd cc
@@ -54,23 +54,23 @@ module _ (text : List ℕ) (ts : List Token) (i : ℕ) (t : Token) (at : slice_g
   deep None h e g = absurd cc
   deep (Some z) h e g = first None (Some z) e g
 
-  pub stops : (r : Reading) → r ≡ reading_from text (drop i ts) i o → (e : Refusal) → Refuses (step (Some o) (counted text t)) (step (Some o) (uncounted text t)) e → IsAnswer text ts r (Err (refusal_at e t.start))
+  pub stops : (r : Reading) → r ≡ reading_from text (drop i ts) i o → (e : Refusal) → Refuses (step (Some o) (counted text t)) (step (Some o) (uncounted text t)) e → HasReading text ts r (Err (refusal_at e t.start))
   stops r same refusal.NoMemory h = tt
   stops r same refusal.Unexpected h = (i, t, at, refl, same ∙ first None None h.0 h.1)
   stops r same refusal.TooDeep h = (i, t, at, refl, same ∙ deep (step (Some o) (uncounted text t)) h.1 h.0 refl)
 
 -- The answer is what the grammar says.
-pub answers_tree : (text : List ℕ) (ts : List Token) (r : Result ChunkNodes ParseError) → IsAnswer text ts (reading text ts) r → (t : Tree) → Parses text ts t → HasTree t r
+pub answers_tree : (text : List ℕ) (ts : List Token) (r : Result ChunkNodes ParseError) → HasReading text ts (reading text ts) r → (t : Tree) → Parses text ts t → HasTree t r
 answers_tree text ts (Ok c) h t p = let same : parsed t ≡ parsed (tree_of c) = the_reading text ts (parsed t) p ∙ h in cc
 answers_tree text ts (Err error.NoMemory) h t p = tt
 answers_tree text ts (Err (error.Unexpected at)) h t p = let same : parsed t ≡ unexpected h.0 = the_reading text ts (parsed t) p ∙ h.4 in absurd cc
 answers_tree text ts (Err (error.TooDeep at)) h t p = let same : parsed t ≡ too_deep h.0 = the_reading text ts (parsed t) p ∙ h.4 in absurd cc
 answers_tree text ts (Err (error.EndOfText len)) h t p = let same : parsed t ≡ unfinished = the_reading text ts (parsed t) p ∙ h.1 in absurd cc
 
-pub answers_parsed : (text : List ℕ) (ts : List Token) (c : ChunkNodes) → IsAnswer text ts (reading text ts) (Ok c) → Parses text ts (tree_of c)
+pub answers_parsed : (text : List ℕ) (ts : List Token) (c : ChunkNodes) → HasReading text ts (reading text ts) (Ok c) → Parses text ts (tree_of c)
 answers_parsed text ts c h = subst (λ (r : Reading). Reads text ts r) h (reads text ts)
 
-pub answers_refusal : (text : List ℕ) (ts : List Token) (e : ParseError) → IsAnswer text ts (reading text ts) (Err e) → IsRefusal text ts e
+pub answers_refusal : (text : List ℕ) (ts : List Token) (e : ParseError) → HasReading text ts (reading text ts) (Err e) → IsRefusal text ts e
 answers_refusal text ts error.NoMemory h = tt
 answers_refusal text ts (error.Unexpected at) h = (h.0, h.1, h.2, h.3, subst (λ (r : Reading). Reads text ts r) h.4 (reads text ts))
 answers_refusal text ts (error.TooDeep at) h = (h.0, h.1, h.2, h.3, subst (λ (r : Reading). Reads text ts r) h.4 (reads text ts))
@@ -95,10 +95,10 @@ are_fit text ts order spelled small i t at =
     let s : IsSpelled text t = subst (λ (x : Token). IsSpelled text x) (get_or_from_slice_get ts i t t at) (spelled i t (slice_get_within ts i t at)) in
     record { ordered = o.0; within = o.1; small = λ e. small (slice_of text t) (subst (λ (k : TokenKind). Spells k (slice_of text t)) e s) }
 
-pub answers_ok : (text : List ℕ) (ts : List Token) (r : Result ChunkNodes ParseError) → IsAnswer text ts (reading text ts) r → IfOk r (λ c. Parses text ts (tree_of c))
+pub answers_ok : (text : List ℕ) (ts : List Token) (r : Result ChunkNodes ParseError) → HasReading text ts (reading text ts) r → IfOk r (λ c. Parses text ts (tree_of c))
 answers_ok text ts (Ok c) h = answers_parsed text ts c h
 answers_ok text ts (Err e) h = tt
 
-pub answers_err : (text : List ℕ) (ts : List Token) (r : Result ChunkNodes ParseError) → IsAnswer text ts (reading text ts) r → IfErr r (λ e. IsRefusal text ts e)
+pub answers_err : (text : List ℕ) (ts : List Token) (r : Result ChunkNodes ParseError) → HasReading text ts (reading text ts) r → IfErr r (λ e. IsRefusal text ts e)
 answers_err text ts (Ok c) h = tt
 answers_err text ts (Err e) h = answers_refusal text ts e h

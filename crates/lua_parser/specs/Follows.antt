@@ -1,37 +1,17 @@
--- What goes on with an expression, and where it is over.
-use Rattle.std.specs.Prelude.{◌≡◌, ℕ, ◌<◌, ◌&&◌, nat_le, cond, List, ◌∷◌, length, Option, Some, None, Result, Ok, Err, true, false}
+-- Where an expression is over, and what goes on then.
+use Rattle.std.specs.Prelude.{◌≡◌, ℕ, ◌+◌, List, length, Result, Ok, Err, ◌<◌, Option, None, true, false}
+use Rattle.lua_parser.specs.declared.follow.Folded.{Folded}
+use Rattle.lua_parser.specs.declared.follow.Folded.TheVariants as folded
+use Rattle.lua_parser.specs.declared.follow.Followed.{Followed}
+use Rattle.lua_parser.specs.declared.follow.Followed.TheVariants as followed
+use Rattle.lua_parser_state.specs.Shown.{Held, attributes, tree_in, stack_in, frame_in, FrameBelow}
+use Rattle.lua_parser_state.specs.Weights.{spent_weight, made_weight, frame_weight, Balances, accounted}
 use Rattle.lua_ast.specs.declared.node.LinedNode.{LinedNode}
 use Rattle.lua_ast.specs.Tree.{Tree}
 use Rattle.lua_grammar.specs.Signs.{Terminal, Attributes}
-use Rattle.lua_grammar.specs.Operators.{Operator, level, left_of, right_of}
 use Rattle.lua_grammar.specs.Pushdown as pushdown
-use Rattle.lua_parser.specs.declared.state.Suffix.{Suffix}
-use Rattle.lua_parser.specs.declared.state.Suffix.TheVariants as suffix
-use Rattle.lua_parser.specs.declared.state.Folded.{Folded}
-use Rattle.lua_parser.specs.declared.state.Folded.TheVariants as folded
-use Rattle.lua_parser.specs.declared.state.Followed.{Followed}
-use Rattle.lua_parser.specs.declared.state.Followed.TheVariants as followed
-use Rattle.lua_parser.specs.declared.refusal.Refusal.{Refusal}
-use Rattle.lua_parser.specs.Gave.{Gave, Refuses}
-use Rattle.lua_parser.specs.Shown.{Held, attributes, tree_in, stack_in, frame_in, operator_in, FrameBelow}
-
--- The operator, if it goes on with an expression of this level.
-abbrev pub chosen : (limit had : ℕ) → Option Operator → Option Operator
-chosen p n None = None
-chosen p n (Some op) = cond (nat_le p (level op) && nat_le (left_of op) n) (Some op) None
-
--- The state in which the expression t goes on.
-abbrev pub extended : ℕ → Tree → List pushdown.Frame → Terminal → Attributes → Suffix → Option pushdown.State
-extended p t k m i suffix.Field = Some (pushdown.NameNext (pushdown.ForField p t) k)
-extended p t k m i suffix.Method = Some (pushdown.NameNext (pushdown.ForMethod p t) k)
-extended p t k m i suffix.Index = pushdown.opened k i (pushdown.Need 0 (pushdown.InIndex p t ∷ k))
-extended p t k m i suffix.Arguments = pushdown.args_begin p (pushdown.called t) k m i
-extended p t k m i (suffix.Operator op) = pushdown.opened k i (pushdown.Need (right_of (operator_in op)) (pushdown.InBinary p (operator_in op) t ∷ k))
-
--- The token goes on with the expression in this way, or doesn't.
-abbrev pub IsSuffix : ℕ → Tree → Terminal → Option Suffix → Type 0
-IsSuffix p t m None = (k : List pushdown.Frame) (i : Attributes) (o : Option pushdown.State) → pushdown.suffix p t k m i o ≡ o
-IsSuffix p t m (Some s) = (k : List pushdown.Frame) (i : Attributes) (o : Option pushdown.State) → pushdown.suffix p t k m i o ≡ extended p t k m i s
+use Rattle.lua_parser_state.specs.declared.refusal.Refusal.{Refusal}
+use Rattle.lua_parser_state.specs.Gave.{Gave, Refuses}
 
 -- What was begun goes on so, where the expression t is over.
 abbrev pub Folds : List pushdown.Frame → Tree → Folded → Held → Type 0
@@ -55,3 +35,14 @@ Follows c f m l s count (Ok (followed.Goes o)) h = Gave c f (Ok o) h
 Follows c f m l s count (Ok (followed.Over o)) h =
     (c ≡ pushdown.follow (stack_in h) o.limit (tree_in h.nodes o.node) m (attributes true l s)) × (f ≡ pushdown.follow (stack_in h) o.limit (tree_in h.nodes o.node) m (attributes false l s)) × (o.node < length h.nodes) × (length h.frames < count)
 Follows c f m l s count (Err e) h = Refuses c f e
+
+-- By every weight the nodes that were given are left or spent, where the expression is over. Inside something else it stays given.
+abbrev pub FoldsOnce : (had : ℕ) → Held → Folded → Held → Type 0
+FoldsOnce had before (folded.Operation o) after = Balances (λ w. w had) before (λ w. w o.node) after
+FoldsOnce had before (folded.Inside f) after = Balances (λ _. 0) before (λ w. frame_weight w f) after
+FoldsOnce had before folded.Nothing after = Unit {0}
+
+abbrev pub FollowsOnce : {E : Type 0} → (had : ℕ) → Held → Result Followed E → Held → Type 0
+FollowsOnce had before (Ok (followed.Goes s)) after = (w : ℕ → ℕ) → accounted w s after + made_weight w before ≡ w had + spent_weight w before + made_weight w after
+FollowsOnce had before (Ok (followed.Over o)) after = Balances (λ w. w had) before (λ w. w o.node) after
+FollowsOnce had before (Err e) after = Unit {0}

@@ -7,9 +7,9 @@ use Rattle.lua_ast.specs.Decode.{ChunkNodes, tree, no_number}
 use Rattle.lua_grammar.specs.Parses.{IsUnexpected, IsTooDeep, IsUnfinished, Reading, parsed, unexpected, too_deep, unfinished}
 use Rattle.lua_parser.specs.declared.parse_error.ParseError.{ParseError}
 use Rattle.lua_parser.specs.declared.parse_error.ParseError.TheVariants as error
-use Rattle.lua_parser.specs.declared.refusal.Refusal.{Refusal}
-use Rattle.lua_parser.specs.declared.refusal.Refusal.TheVariants as refusal
-use Rattle.lua_parser.specs.Gave.{IsSmall}
+use Rattle.lua_parser_state.specs.declared.refusal.Refusal.{Refusal}
+use Rattle.lua_parser_state.specs.declared.refusal.Refusal.TheVariants as refusal
+use Rattle.lua_parser_state.specs.Gave.{IsSmall}
 
 -- The tree of a chunk, without the numbers of its nodes.
 abbrev pub tree_of : ChunkNodes → Tree
@@ -29,12 +29,12 @@ IsRefusal text ts (error.TooDeep at) = (n : ℕ) × (t : Token) × (slice_get ts
 IsRefusal text ts (error.EndOfText len) = (len ≡ length text) × IsUnfinished text ts
 
 -- The answer of a parser that comes to this reading.
-abbrev pub IsAnswer : List ℕ → List Token → Reading → Result ChunkNodes ParseError → Type 0
-IsAnswer text ts r (Ok c) = r ≡ parsed (tree_of c)
-IsAnswer text ts r (Err error.NoMemory) = Unit {0}
-IsAnswer text ts r (Err (error.Unexpected at)) = (n : ℕ) × (t : Token) × (slice_get ts n ≡ Some t) × (t.start ≡ at) × (r ≡ unexpected n)
-IsAnswer text ts r (Err (error.TooDeep at)) = (n : ℕ) × (t : Token) × (slice_get ts n ≡ Some t) × (t.start ≡ at) × (r ≡ too_deep n)
-IsAnswer text ts r (Err (error.EndOfText len)) = (len ≡ length text) × (r ≡ unfinished)
+abbrev pub HasReading : List ℕ → List Token → Reading → Result ChunkNodes ParseError → Type 0
+HasReading text ts r (Ok c) = r ≡ parsed (tree_of c)
+HasReading text ts r (Err error.NoMemory) = Unit {0}
+HasReading text ts r (Err (error.Unexpected at)) = (n : ℕ) × (t : Token) × (slice_get ts n ≡ Some t) × (t.start ≡ at) × (r ≡ unexpected n)
+HasReading text ts r (Err (error.TooDeep at)) = (n : ℕ) × (t : Token) × (slice_get ts n ≡ Some t) × (t.start ≡ at) × (r ≡ too_deep n)
+HasReading text ts r (Err (error.EndOfText len)) = (len ≡ length text) × (r ≡ unfinished)
 
 -- A token lies within the text, and as a numeral it is not too large.
 pub record IsFit (text : List ℕ) (t : Token) : Type 0 where

@@ -1,7 +1,5 @@
 //! Why tokens are no text of the grammar.
 
-use crate::refusal::Refusal;
-
 /// Why tokens are no text of the grammar (Lua 5.2 manual, section 9). A place is that of the first byte of a token, from 0.
 #[derive(Clone, Copy, Debug, PartialEq, Eq, Drop)]
 pub enum ParseError {

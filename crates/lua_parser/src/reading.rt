@@ -8,17 +8,16 @@ ghost use Rattle.lua_grammar.specs.Signs.{end};
 ghost use Rattle.lua_grammar.specs.Parses.{Parses};
 ghost use Rattle.lua_grammar.specs.Pushdown.{step_from};
 ghost use Rattle.lua_grammar.specs.Deciding.{reading, reading_at_end};
-ghost use Rattle.lua_parser.specs.Parsing.{tree_of, HasTree, IsRefusal, IsAnswer, AreFit, refusal_at};
+ghost use Rattle.lua_parser.specs.Parsing.{tree_of, HasTree, IsRefusal, HasReading, AreFit, refusal_at};
 ghost use Rattle.lua_ast.specs.Once.{IsEachOnce};
-ghost use Rattle.lua_parser.specs.Weights.{spent_weight, made_weight, accounted};
-ghost use Rattle.lua_parser.specs.Shown.{stack_in, state_in, attributes, StateBelow};
+ghost use Rattle.lua_parser_state.specs.Weights.{spent_weight, made_weight, accounted};
+ghost use Rattle.lua_parser_state.specs.Shown.{stack_in, state_in, attributes, StateBelow};
 
 use crate::parse_error::ParseError;
-use crate::parser::Parser;
-use crate::refusal::Refusal;
-use crate::state::State;
+use crate::step::{end, step};
 use lua_ast::Chunk;
 use lua_lexer::Token;
+use lua_parser_state::{Parser, Refusal, State};
 use std::alloc::Global;
 
 /// The tree of a text of at most 1,048,576 bytes, of which these are the tokens, or its refusal (Lua 5.2 manual, section 9).
@@ -35,10 +34,11 @@ pub fn parse(alloc: Global, text: &[u8], tokens: &[Token]) -> Result<Chunk, Pars
     parse_tokens(alloc, text, tokens)
 }
 
+/// Parses tokens that lie within the text.
 fn parse_tokens(alloc: Global, text: &[u8], tokens: &[Token]) -> Result<Chunk, ParseError>
     requires size { length text.now ≤ 1048576 }
     requires fit { AreFit text.now tokens.now }
-    ensures answers { IsAnswer text.now tokens.now (reading text.now tokens.now) result }
+    ensures answers { HasReading text.now tokens.now (reading text.now tokens.now) result }
     ensures once { IfOk result (λ chunk. IsEachOnce chunk) }
 {
     let mut parser = Parser::new(alloc);
@@ -56,12 +56,12 @@ fn read(parser: &mut Parser, text: &[u8], tokens: &[Token]) -> Result<State, Par
     ensures state { IfOk result (λ state. reading text.now tokens.now
         ≡ reading_at_end (step_from (state_in parser.new.nodes (stack_in parser.new) state) end (attributes true 1 []))) }
     ensures below { IfOk result (λ state. StateBelow (length parser.new.nodes) state) }
-    ensures refused { IfErr result (λ error. IsAnswer text.now tokens.now (reading text.now tokens.now) (Err error)) }
+    ensures refused { IfErr result (λ error. HasReading text.now tokens.now (reading text.now tokens.now) (Err error)) }
     ensures once { IfOk result (λ state. (w : ℕ → ℕ) → accounted w state parser.new ≡ made_weight w parser.new) }
 {
     let mut state = State::BlockNext;
     for token in tokens {
-        match parser.step(state, token.kind, token.line, token.slice(text)) {
+        match step(parser, state, token.kind, token.line, token.slice(text)) {
             Ok(next) => state = next,
             Err(refusal) => return Err(refusal_at(refusal, token.start)),
         }
@@ -81,15 +81,15 @@ fn refusal_at(refusal: Refusal, start: u32) -> ParseError
 }
 
 /// The chunk of a text of this many bytes, which ends in this state.
-#[tactic(auto, unfolding(crate::specs::Weights::made_weight))]
+#[tactic(auto, unfolding(lua_parser_state::specs::Weights::made_weight))]
 fn finish(mut parser: Parser, state: State, len: u32) -> Result<Chunk, ParseError>
     requires below { StateBelow (length parser.nodes) state }
     requires balance { (w : ℕ → ℕ) → accounted w state parser ≡ made_weight w parser }
-    ensures answers { (text : List ℕ) (ts : List token_at) → length text ≡ len → IsAnswer text ts
+    ensures answers { (text : List ℕ) (ts : List token_at) → length text ≡ len → HasReading text ts
         (reading_at_end (step_from (state_in parser.nodes (stack_in parser) state) end (attributes true 1 []))) result }
     ensures once { IfOk result (λ chunk. IsEachOnce chunk) }
 {
-    let last = match parser.end(state) {
+    let last = match end(&mut parser, state) {
         Ok(last) => last,
         Err(Refusal::NoMemory) => return Err(ParseError::NoMemory),
         Err(_) => return Err(ParseError::EndOfText(len)),

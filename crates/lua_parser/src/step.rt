@@ -3,113 +3,119 @@
 ghost use Rattle.std.specs.Prelude.{[], true, false, length, Some, None};
 ghost use Rattle.lua_grammar.specs.Signs.{token, end};
 ghost use Rattle.lua_grammar.specs.Pushdown.{begun, next, step_from};
-ghost use Rattle.lua_parser.specs.Shown.{stack_in, state_in, attributes, StateBelow};
-ghost use Rattle.lua_parser.specs.Gave.{Gave, IsSmall, terminal_of};
-ghost use Rattle.lua_parser.specs.Weights.{Spends, StepsOnce};
+ghost use Rattle.lua_parser_state.specs.Shown.{stack_in, state_in, attributes, StateBelow};
+ghost use Rattle.lua_parser_state.specs.Gave.{Gave, IsSmall, terminal_of};
+ghost use Rattle.lua_parser_state.specs.Weights.{Spends, StepsOnce};
 
-use crate::frame::Begun;
-use crate::parser::Parser;
-use crate::refusal::Refusal;
-use crate::state::State;
+use crate::follow::{field_name, follow};
 use lua_ast::Ids;
+use lua_blocks::end_block;
+use lua_expressions::{args_begin, args_open, begin, field_next, key_end};
 use lua_lexer::TokenKind;
+use lua_names::{
+    body_next, name_next, param_first, param_names, param_next, params_end, path_next,
+};
+use lua_parser_state::{Begun, Parser, Refusal, State};
+use lua_statements::{
+    for_name, for_names, label_end, local_names, local_next, next, return_next, target_next,
+};
 
-impl Parser {
-    /// A block begins, or ends without a statement.
-    #[tactic(auto, using(crate::proofs::Lists::list_of_none))]
-    fn block_next(
-        &mut self,
-        kind: Option<TokenKind>,
-        line: u32,
-        slice: &[u8],
-    ) -> Result<State, Refusal>
-        ensures gave { Gave
-            (next (begun line) (stack_in self.old) (terminal_of kind) (attributes true line slice.now))
-            (next (begun line) (stack_in self.old) (terminal_of kind) (attributes false line slice.now)) result self.new }
-        ensures once { Spends (λ _. 0) self.old result self.new }
-    {
-        let stats = Ids::new(self.alloc());
-        self.next(Begun { line, stats }, kind, line, slice)
-    }
+/// Reads the first token of a block, or the end of one without statements.
+#[tactic(auto, using(lua_parser_state::proofs::Lists::list_of_none))]
+fn block_next(
+    parser: &mut Parser,
+    kind: Option<TokenKind>,
+    line: u32,
+    slice: &[u8],
+) -> Result<State, Refusal>
+    ensures gave { Gave
+        (next (begun line) (stack_in parser.old) (terminal_of kind) (attributes true line slice.now))
+        (next (begun line) (stack_in parser.old) (terminal_of kind) (attributes false line slice.now)) result parser.new }
+    ensures once { Spends (λ _. 0) parser.old result parser.new }
+{
+    let stats = Ids::new(parser.alloc());
+    next(parser, Begun { line, stats }, kind, line, slice)
+}
 
-    /// A token is read.
-    pub fn step(
-        &mut self,
-        state: State,
-        kind: TokenKind,
-        line: u32,
-        slice: &[u8],
-    ) -> Result<State, Refusal>
-        requires state { StateBelow (length self.old.nodes) state }
-        requires small { IsSmall kind slice.now }
-        ensures gave { Gave
-            (step_from (state_in self.old.nodes (stack_in self.old) state) (token kind) (attributes true line slice.now))
-            (step_from (state_in self.old.nodes (stack_in self.old) state) (token kind) (attributes false line slice.now))
-            result self.new }
-        ensures once { StepsOnce state self.old result self.new }
-    {
-        match state {
-            State::Need { limit } => self.begin(limit, kind, line, slice),
-            State::Have { limit, node } => self.follow(limit, node, Some(kind), line, slice),
-            State::NameNext { naming } => self.name_next(naming, kind, line, slice),
-            State::ArgsNext { limit, callee } => self.args_begin(limit, callee, kind, line, slice),
-            State::ArgsOpen { limit, callee } => self.args_open(limit, callee, kind, line, slice),
-            State::FieldNext { table } => self.field_next(table, kind, line, slice),
-            State::FieldName { table, own, name } => {
-                self.field_name(table, own, name, kind, line, slice)
-            }
-            State::KeyEnd { table, key } => self.key_end(table, key, kind),
-            State::BlockNext => self.block_next(Some(kind), line, slice),
-            State::StatNext { block } => self.next(block, Some(kind), line, slice),
-            State::LabelEnd { line, name, block } => self.label_end(line, name, block, kind),
-            State::LocalNext { line: own, block } => self.local_next(own, block, kind, line, slice),
-            State::LocalNames {
-                line: own,
-                names,
-                block,
-            } => self.local_names(own, names, block, Some(kind), line, slice),
-            State::LoopName { line, name, block } => self.for_name(line, name, block, kind),
-            State::LoopNames { line, names, block } => self.for_names(line, names, block, kind),
-            State::PathNext { line, path, block } => self.path_next(line, path, block, kind),
-            State::BodyNext { head } => self.body_next(head, kind),
-            State::ParamFirst { head } => self.param_first(head, kind, slice),
-            State::ParamNext { head, params } => self.param_next(head, params, kind, slice),
-            State::ParamNames { head, params } => self.param_names(head, params, kind),
-            State::ParamsEnd { head, params } => self.params_end(head, params, kind),
-            State::TargetNext {
-                line: own,
-                targets,
-                block,
-            } => self.target_next(own, targets, block, kind, line, slice),
-            State::ReturnNext { line: own, block } => {
-                self.return_next(own, block, Some(kind), line, slice)
-            }
-            State::BlockEnd { block } => self.end_block(block, Some(kind)),
-            State::Done { .. } => Err(Refusal::Unexpected),
+/// Reads a token.
+pub fn step(
+    parser: &mut Parser,
+    state: State,
+    kind: TokenKind,
+    here: u32,
+    slice: &[u8],
+) -> Result<State, Refusal>
+    requires state { StateBelow (length parser.old.nodes) state }
+    requires small { IsSmall kind slice.now }
+    ensures gave { Gave
+        (step_from (state_in parser.old.nodes (stack_in parser.old) state) (token kind) (attributes true here slice.now))
+        (step_from (state_in parser.old.nodes (stack_in parser.old) state) (token kind) (attributes false here slice.now))
+        result parser.new }
+    ensures once { StepsOnce state parser.old result parser.new }
+{
+    match state {
+        State::Need { limit } => begin(parser, limit, kind, here, slice),
+        State::Have { limit, node } => follow(parser, limit, node, Some(kind), here, slice),
+        State::NameNext { naming } => name_next(parser, naming, kind, here, slice),
+        State::ArgsNext { limit, callee } => args_begin(parser, limit, callee, kind, here, slice),
+        State::ArgsOpen { limit, callee } => args_open(parser, limit, callee, kind, here, slice),
+        State::FieldNext { table } => field_next(parser, table, kind, here, slice),
+        State::FieldName { table, own, name } => {
+            field_name(parser, table, own, name, kind, here, slice)
         }
-    }
-
-    /// The text ends.
-    pub fn end(&mut self, state: State) -> Result<State, Refusal>
-        requires { StateBelow (length self.old.nodes) state }
-        ensures gave { Gave
-            (step_from (state_in self.old.nodes (stack_in self.old) state) end (attributes true 1 []))
-            (step_from (state_in self.old.nodes (stack_in self.old) state) end (attributes false 1 []))
-            result self.new }
-        ensures once { StepsOnce state self.old result self.new }
-    {
-        match state {
-            State::Have { limit, node } => self.follow(limit, node, None, 1, &[]),
-            State::BlockNext => self.block_next(None, 1, &[]),
-            State::StatNext { block } => self.next(block, None, 1, &[]),
-            State::LocalNames {
-                line: own,
-                names,
-                block,
-            } => self.local_names(own, names, block, None, 1, &[]),
-            State::ReturnNext { line: own, block } => self.return_next(own, block, None, 1, &[]),
-            State::BlockEnd { block } => self.end_block(block, None),
-            _ => Err(Refusal::Unexpected),
+        State::KeyEnd { table, key } => key_end(parser, table, key, kind),
+        State::BlockNext => block_next(parser, Some(kind), here, slice),
+        State::StatNext { block } => next(parser, block, Some(kind), here, slice),
+        State::LabelEnd { line, name, block } => label_end(parser, line, name, block, kind),
+        State::LocalNext { line, block } => local_next(parser, line, block, kind, here, slice),
+        State::LocalNames { line, names, block } => {
+            local_names(parser, line, names, block, Some(kind), here, slice)
         }
+        State::LoopName { line, name, block } => for_name(parser, line, name, block, kind),
+        State::LoopNames { line, names, block } => for_names(parser, line, names, block, kind),
+        State::PathNext { line, path, block } => path_next(parser, line, path, block, kind),
+        State::BodyNext { head } => body_next(parser, head, kind),
+        State::ParamFirst { head } => param_first(parser, head, kind, slice),
+        State::ParamNext { head, params } => param_next(parser, head, params, kind, slice),
+        State::ParamNames { head, params } => param_names(parser, head, params, kind),
+        State::ParamsEnd { head, params } => params_end(parser, head, params, kind),
+        State::TargetNext {
+            line,
+            targets,
+            block,
+        } => target_next(parser, line, targets, block, kind, here, slice),
+        State::ReturnNext { line, block } => {
+            return_next(parser, line, block, Some(kind), here, slice)
+        }
+        State::BlockEnd { block } => end_block(parser, block, Some(kind)),
+        State::Done { .. } => Err(Refusal::Unexpected),
+    }
+}
+
+/// Reads the end of the text.
+pub fn end(parser: &mut Parser, state: State) -> Result<State, Refusal>
+    requires { StateBelow (length parser.old.nodes) state }
+    ensures gave { Gave
+        (step_from (state_in parser.old.nodes (stack_in parser.old) state) end (attributes true 1 []))
+        (step_from (state_in parser.old.nodes (stack_in parser.old) state) end (attributes false 1 []))
+        result parser.new }
+    ensures once { StepsOnce state parser.old result parser.new }
+{
+    match state {
+        State::Have { limit, node } => follow(parser, limit, node, None, 1, &[]),
+        State::BlockNext => block_next(parser, None, 1, &[]),
+        State::StatNext { block } => next(parser, block, None, 1, &[]),
+        State::LocalNames { line, names, block } => local_names(
+            parser,
+            line,
+            names,
+            block,
+            None,
+            1,
+            &[],
+        ),
+        State::ReturnNext { line, block } => return_next(parser, line, block, None, 1, &[]),
+        State::BlockEnd { block } => end_block(parser, block, None),
+        _ => Err(Refusal::Unexpected),
     }
 }

@@ -8,9 +8,9 @@ use Rattle.lua_grammar.specs.Pushdown as pushdown
 use Rattle.lua_grammar.specs.Pushdown.{BlockNext, step_from}
 use Rattle.lua_grammar.specs.Deciding.{reading, reading_from}
 use Rattle.lua_parser.specs.declared.parse_error.ParseError.{ParseError}
-use Rattle.lua_parser.specs.Shown.{stack_in, state_in, attributes}
-use Rattle.lua_parser.specs.Gave.{Refuses, IsSmall}
-use Rattle.lua_parser.specs.Parsing.{IsAnswer}
+use Rattle.lua_parser_state.specs.Shown.{stack_in, state_in, attributes}
+use Rattle.lua_parser_state.specs.Gave.{Refuses, IsSmall}
+use Rattle.lua_parser.specs.Parsing.{HasReading}
 use Rattle.lua_parser.proofs.Readings.{stops}
 use Rattle.lua_parser.proofs.reading.read.Goals as goal
 
@@ -46,5 +46,5 @@ returns-in-Err-clause-refused c =
     let t = get_or ts c.loop-token.token-index nil in
     let o = state_in c.loop-token.parser.nodes (stack_in c.loop-token.parser) c.loop-token.state in
     let refused = subst (λ (s : List ℕ). Refuses (step_from o (token t.kind) (attributes true t.line s)) (step_from o (token t.kind) (attributes false t.line s)) c.in-Err.refusal) c.slice.ensures c.in-Err.ensures.gave in
-    subst (λ (e : ParseError). IsAnswer c.args.text.now ts (reading c.args.text.now ts) (Err e)) (sym c.refusal_at.ensures)
+    subst (λ (e : ParseError). HasReading c.args.text.now ts (reading c.args.text.now ts) (Err e)) (sym c.refusal_at.ensures)
     (stops c.args.text.now ts c.loop-token.token-index t (slice_get-get_or ts c.loop-token.token-index nil c.loop-token-test.true) o (reading c.args.text.now ts) c.loop-token.invariant.rest c.in-Err.refusal refused)

@@ -1,7 +1,7 @@
 use Rattle.std.specs.Prelude.{◌≡◌, ℕ, length, drop}
 use Rattle.lua_grammar.specs.Deciding.{reading, reading_from}
-use Rattle.lua_parser.specs.Shown.{stack_in, state_in, StateBelow}
-use Rattle.lua_parser.specs.Weights.{accounted, made_weight}
+use Rattle.lua_parser_state.specs.Shown.{stack_in, state_in, StateBelow}
+use Rattle.lua_parser_state.specs.Weights.{accounted, made_weight}
 use Rattle.lua_parser.proofs.reading.read.Given as goal
 
 -- What is left to be read decides.

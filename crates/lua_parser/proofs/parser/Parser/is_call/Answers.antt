@@ -1,8 +1,0 @@
-use Rattle.std.proofs.Common.{ap, sym, ◌∙◌}
-use Rattle.lua_ast.specs.Tree.{line_of}
-use Rattle.lua_grammar.specs.Grammar.{is_call}
-use Rattle.lua_parser.specs.Shown.{tree_in}
-use Rattle.lua_parser.proofs.parser.Parser.is_call.Goals as goal
-
-pub returns : goal.returns
-returns c = c.is_call.ensures (tree_in c.args.self.now.nodes) 0 (line_of (tree_in c.args.self.now.nodes c.args.id)) ∙ sym (ap is_call c.node.ensures)

@@ -1,0 +1,4 @@
+pub mod Depth
+pub mod Shown
+pub mod Weights
+pub mod Gave
