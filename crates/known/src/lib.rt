@@ -68,3 +68,6 @@ impl<X> Drop for Known<X> {
         let Self { marker: _ } = self;
     }
 }
+
+#[cfg(test)]
+mod tests;

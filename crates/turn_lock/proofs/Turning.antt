@@ -12,9 +12,9 @@ use Rattle.turn_lock.specs.declared.view.View.{View}
 use Rattle.turn_lock.specs.declared.view.Stored.{Stored}
 use Rattle.turn_lock.specs.declared.view.Stage.{Stage}
 use Rattle.turn_lock.specs.declared.view.Stage.TheVariants.{Idle, Waiting, Holding, Leaving}
-use Rattle.turn_lock.specs.Entries.{times, NoneBy, EachBy}
-use Rattle.turn_lock.specs.Rule.{has_ticket, IsTicket, IsHolding, IsPlaced, tickets_of, parts_of, plain_view, Fits, Apart, IsStored, IsAt, IsKept}
-use Rattle.turn_lock.specs.Steps.{leaving, staged, Drew, Looked, Raised, Served, Counted}
+use Rattle.turn_lock.specs.Entries.{times, NoneByThese, EachByThese}
+use Rattle.turn_lock.specs.Rule.{has_ticket, IsTicket, IsHolding, IsPlaced, tickets_of, held_numbers, plain_view, ViewFits, TicketsDiffer, IsStored, IsSlotAt, KeepsTurns}
+use Rattle.turn_lock.specs.Steps.{leaving, staged, DrewTicket, LookedAtServing, RaisedCount, ServedNext, LookedAtCount}
 use Rattle.turn_lock.proofs.Sums.{total_set, same_total, two_of, total_le, times_once}
 
 waiting_same : (u t : ℕ) → Waiting u ≡ Waiting t → u ≡ t
@@ -51,15 +51,15 @@ served_one served drawn (Holding t) n p = absurd (n p.0)
 served_one served drawn (Leaving t) n p = absurd (n p.0)
 
 module _ {E : Type 0} (maker : E → ℕ) where
-  pub none_append : (ns : List ℕ) (xs ys : List E) → NoneBy maker ns xs → NoneBy maker ns ys → NoneBy maker ns (xs ++ ys)
+  pub none_append : (ns : List ℕ) (xs ys : List E) → NoneByThese maker ns xs → NoneByThese maker ns ys → NoneByThese maker ns (xs ++ ys)
   none_append ns [] ys a b = b
   none_append ns (x ∷ xs) ys a b = (a.0, none_append ns xs ys a.1 b)
 
-  pub none_of_others : (ns ms : List ℕ) → ((k : ℕ) → 0 < times k ns → times k ms ≡ 0) → (xs : List E) → EachBy maker ns xs → NoneBy maker ms xs
+  pub none_of_others : (ns ms : List ℕ) → ((k : ℕ) → 0 < times k ns → times k ms ≡ 0) → (xs : List E) → EachByThese maker ns xs → NoneByThese maker ms xs
   none_of_others ns ms h [] a = tt
   none_of_others ns ms h (x ∷ xs) a = (h (maker x) a.0, none_of_others ns ms h xs a.1)
 
-  pub none_of_none : (xs : List E) → NoneBy maker [] xs
+  pub none_of_none : (xs : List E) → NoneByThese maker [] xs
   none_of_none [] = tt
   none_of_none (x ∷ xs) = (refl, none_of_none xs)
 
@@ -99,8 +99,8 @@ more_drawn served drawn drawn' le (Holding u) p = let b = p.1 in (p.0, omega ari
 more_drawn served drawn drawn' le (Leaving u) p = let b = p.1 in (p.0, omega arith)
 
 module _ {O E : Type 0} where
-  pub apart_set : (vs : List (View O E)) (id : ℕ) (w : View O E) → Apart vs → ((j t : ℕ) (v : View O E) → j ≢ id → get_elem? vs j ≡ some v → IsTicket t v.stage → ¬ IsTicket t w.stage)
-      → Apart (set vs id w)
+  pub apart_set : (vs : List (View O E)) (id : ℕ) (w : View O E) → TicketsDiffer vs → ((j t : ℕ) (v : View O E) → j ≢ id → get_elem? vs j ≡ some v → IsTicket t v.stage → ¬ IsTicket t w.stage)
+      → TicketsDiffer (set vs id w)
   apart_set vs id w apart new i j t a b ea eb ta tb = ⊎_elim
       (λ (p : (i ≡ id) × (w ≡ a)). ⊎_elim
       (λ (q : (j ≡ id) × (w ≡ b)). p.0 ∙ sym q.0)
@@ -114,7 +114,7 @@ module _ {O E : Type 0} where
 
 module _ {T O E : Type 0} (stands : T → O → List E → Type 0) (maker : E → ℕ) (origin : O) (count : ℕ) where
   abbrev Rule : State (Stored T E) (View O E) → Type 0
-  Rule = IsKept stands maker origin count
+  Rule = KeepsTurns stands maker origin count
 
   abbrev St : Type 0
   St = State (Stored T E) (View O E)
@@ -123,7 +123,7 @@ module _ {T O E : Type 0} (stands : T → O → List E → Type 0) (maker : E �
   Seat = Me (Stored T E) (View O E)
 
   pub home_stays : (hand : List E) (homes : List (Option (Stored T E))) (vs : List (View O E)) (id : ℕ) (v w : View O E) → get_elem? vs id ≡ some v → (IsHolding v.stage → IsHolding w.stage)
-      → IsAt stands origin hand homes vs → IsAt stands origin hand homes (set vs id w)
+      → IsSlotAt stands origin hand homes vs → IsSlotAt stands origin hand homes (set vs id w)
   home_stays hand homes vs id v w e keep at = ⊎_elim inl (λ (out : (homes ≡ none ∷ []) × ((j : ℕ) × (u : View O E) × (get_elem? vs j ≡ some u) × IsHolding u.stage)).
       let j = out.1.0 in let u = out.1.1 in inr (
         out.0,
@@ -134,12 +134,12 @@ module _ {T O E : Type 0} (stands : T → O → List E → Type 0) (maker : E �
       )) at
 
   few_out : (s : St) (r : Rule s) → r.drawn < r.served + 2 ^ 64
-  few_out s r = let a = total_le tickets_of parts_of s.views (λ j v e. (r.fits j v e).enough) in let b = r.tickets in let c = r.parts in let d = r.few in omega arith
+  few_out s r = let a = total_le tickets_of held_numbers s.views (λ j v e. (r.fits j v e).enough) in let b = r.tickets in let c = r.parts in let d = r.few in omega arith
 
-  pub draws : (slots id : ℕ) (m : Seat) → m.0.stage ≡ Idle → 0 < length m.0.numbers → Allows Rule slots id m 1 (λ n. (n + 1) % 2 ^ 64) (Drew (step slots 1 1 0 none) m)
+  pub draws : (slots id : ℕ) (m : Seat) → m.0.stage ≡ Idle → 0 < length m.0.numbers → Allows Rule slots id m 1 (λ n. (n + 1) % 2 ^ 64) (DrewTicket (step slots 1 1 0 none) m)
   draws slots id m idle any s r _ at _ =
       let w = staged m.0 (Waiting r.drawn) in
-      let old : ((j : ℕ) (v : View O E) → get_elem? s.views j ≡ some v → Fits maker origin r.hand r.served r.drawn v) = r.fits in
+      let old : ((j : ℕ) (v : View O E) → get_elem? s.views j ≡ some v → ViewFits maker origin r.hand r.served r.drawn v) = r.fits in
       let mine = old id m.0 at in
       let word : (get_or s.words 1 0) ≡ r.drawn % 2 ^ 64 = ap (λ (ws : List ℕ). get_or ws 1 0) r.words in
       let enough = mine.enough in let tickets = r.tickets in (
@@ -153,12 +153,12 @@ module _ {T O E : Type 0} (stands : T → O → List E → Type 0) (maker : E �
           words = ap (λ (ws : List ℕ). set ws 1 ((get_or ws 1 0 + 1) % 2 ^ 64)) r.words ∙ ap (λ (n : ℕ). length r.hand ∷ n ∷ (r.served % 2 ^ 64) ∷ []) (mod-add-mod r.drawn (2 ^ 64) 1);
           short = r.short;
           home = home_stays r.hand s.homes s.views id m.0 w at (λ h. absurd (subst IsHolding idle h)) r.home;
-          fits = each_set (λ j v. Fits maker origin r.hand r.served r.drawn v) (λ j v. Fits maker origin r.hand r.served (r.drawn + 1) v) s.views id w
+          fits = each_set (λ j v. ViewFits maker origin r.hand r.served r.drawn v) (λ j v. ViewFits maker origin r.hand r.served (r.drawn + 1) v) s.views id w
               (record { same_origin = mine.same_origin; seen = mine.seen; placed = (omega arith, omega arith); holds = λ h. absurd h; enough = omega arith; begun = tt })
               (λ j v other e. let f = old j v e in record { same_origin = f.same_origin; seen = f.seen; placed = more_drawn r.served r.drawn (r.drawn + 1) (omega arith) v.stage f.placed; holds = f.holds; enough = f.enough; begun = f.begun });
           apart = apart_set s.views id w r.apart (λ j t v other e is mine. let b = (between r.served r.drawn t v.stage (old j v e).placed is).1 in omega arith);
           tickets = (let s = total_set tickets_of s.views id m.0 w at in let z : tickets_of m.0 ≡ 0 = ap has_ticket idle in omega arith);
-          parts = same_total parts_of s.views id m.0 w at refl ∙ r.parts;
+          parts = same_total held_numbers s.views id m.0 w at refl ∙ r.parts;
           few = r.few;
           once = λ k. same_total (λ v. times k v.numbers) s.views id m.0 w at refl ∙ r.once k;
         },
@@ -173,9 +173,9 @@ module _ {T O E : Type 0} (stands : T → O → List E → Type 0) (maker : E �
   waits_in : (served drawn t : ℕ) (g : Stage) → g ≡ Waiting t → IsPlaced served drawn g → (served ≤ t) × (t < drawn)
   waits_in served drawn t g e p = let q : IsPlaced served drawn (Waiting t) = subst (IsPlaced served drawn) e p in q
 
-  pub looks : (slots id t : ℕ) (m : Seat) → m.0.stage ≡ Waiting t → Allows Rule slots id m 2 (λ n. n) (Looked stands maker (step slots 2 0 0 none) m)
+  pub looks : (slots id t : ℕ) (m : Seat) → m.0.stage ≡ Waiting t → Allows Rule slots id m 2 (λ n. n) (LookedAtServing stands maker (step slots 2 0 0 none) m)
   looks slots id t m waits s r _ at _ =
-      let old : ((j : ℕ) (v : View O E) → get_elem? s.views j ≡ some v → Fits maker origin r.hand r.served r.drawn v) = r.fits in
+      let old : ((j : ℕ) (v : View O E) → get_elem? s.views j ≡ some v → ViewFits maker origin r.hand r.served r.drawn v) = r.fits in
       let mine = old id m.0 at in
       let word : (get_or s.words 2 0) ≡ r.served % 2 ^ 64 = ap (λ (ws : List ℕ). get_or ws 2 0) r.words in
       let there = waits_in r.served r.drawn t m.0.stage waits mine.placed in
@@ -199,7 +199,7 @@ module _ {T O E : Type 0} (stands : T → O → List E → Type 0) (maker : E �
           words = set-get_or s.words 2 0 ∙ r.words;
           short = r.short;
           home = inr (ap (λ (hs : List (Option (Stored T E))). set hs 0 none) home.1, (id, w, is_there s.views id m.0 w at, tt));
-          fits = each_set (λ j v. Fits maker origin r.hand r.served r.drawn v) (λ j v. Fits maker origin r.hand r.served r.drawn v) s.views id w
+          fits = each_set (λ j v. ViewFits maker origin r.hand r.served r.drawn v) (λ j v. ViewFits maker origin r.hand r.served r.drawn v) s.views id w
               (record {
                 same_origin = mine.same_origin;
                 seen = ([], sym stored.2, tt);
@@ -211,7 +211,7 @@ module _ {T O E : Type 0} (stands : T → O → List E → Type 0) (maker : E �
               (λ j v other e. old j v e);
           apart = apart_set s.views id w r.apart (λ j u v other e is mine'. other (r.apart j id u v m.0 e at is (subst (IsTicket u) (sym waits) mine')));
           tickets = let e = same_total tickets_of s.views id m.0 w at (sym (ap has_ticket waits)) in let p = r.tickets in omega arith;
-          parts = same_total parts_of s.views id m.0 w at refl ∙ r.parts;
+          parts = same_total held_numbers s.views id m.0 w at refl ∙ r.parts;
           few = r.few;
           once = λ k. same_total (λ v. times k v.numbers) s.views id m.0 w at refl ∙ r.once k;
         },
@@ -237,7 +237,7 @@ module _ {T O E : Type 0} (stands : T → O → List E → Type 0) (maker : E �
       r.home)
       (λ no. (m.0, keeps, tt, unmoved s r 2 id m at, (λ u e. ((λ yes. absurd (no (yes ∙ ap (λ (z : ℕ). z % 2 ^ 64) (same_t u e)))), λ _. refl))))
 
-  one_home : (hand : List E) (homes : List (Option (Stored T E))) (vs : List (View O E)) → IsAt stands origin hand homes vs → (h : Option (Stored T E)) × (homes ≡ h ∷ [])
+  one_home : (hand : List E) (homes : List (Option (Stored T E))) (vs : List (View O E)) → IsSlotAt stands origin hand homes vs → (h : Option (Stored T E)) × (homes ≡ h ∷ [])
   one_home hand homes vs at = ⊎_elim (λ (a : (x : Stored T E) × (homes ≡ some x ∷ []) × IsStored stands origin hand x). (some a.0, a.1))
       (λ (b : (homes ≡ none ∷ []) × ((j : ℕ) × (v : View O E) × (get_elem? vs j ≡ some v) × IsHolding v.stage)). (none, b.0)) at
 
@@ -245,10 +245,10 @@ module _ {T O E : Type 0} (stands : T → O → List E → Type 0) (maker : E �
   held_once s r i j v w n e d k h = let a = two_of (λ (z : View O E). times k z.numbers) s.views i j v w n e d in let b = r.once k in let c = times_once k count in omega arith
 
   pub raises : (slots id new t : ℕ) (m : Seat) (x : Stored T E) (v : T) (list later : List E) (from : O) → m.1 ≡ (0, x) ∷ [] → m.0.stage ≡ Holding t → x.value ≡ Some v → x.list.value ≡ list
-      → m.0.origin ≡ Some from → stands v from list → new ≡ length list → new < 2 ^ 64 → list ≡ later ++ m.0.list → EachBy maker m.0.numbers later
-      → Allows Rule slots id m 0 (λ _. new) (λ _. Raised (step slots 0 new 0 none) m new)
+      → m.0.origin ≡ Some from → stands v from list → new ≡ length list → new < 2 ^ 64 → list ≡ later ++ m.0.list → EachByThese maker m.0.numbers later
+      → Allows Rule slots id m 0 (λ _. new) (λ _. RaisedCount (step slots 0 new 0 none) m new)
   raises slots id new t m x v list later from slot holding value listed begins stood len short grows own s r _ at _ =
-      let old : ((j : ℕ) (v : View O E) → get_elem? s.views j ≡ some v → Fits maker origin r.hand r.served r.drawn v) = r.fits in
+      let old : ((j : ℕ) (v : View O E) → get_elem? s.views j ≡ some v → ViewFits maker origin r.hand r.served r.drawn v) = r.fits in
       let mine = old id m.0 at in
       let w = plain_view m.0.origin x.list.value m.0.numbers (leaving m.0.stage) m.0.turns in
       let one = one_home r.hand s.homes s.views r.home in
@@ -268,7 +268,7 @@ module _ {T O E : Type 0} (stands : T → O → List E → Type 0) (maker : E �
             ap (λ (c : List (ℕ × Stored T E)). Rattle.atomic_table.specs.Table.put_back s.homes c) slot ∙ ap (λ (hs : List (Option (Stored T E))). set hs 0 (some x)) one.1,
             (v, value, refl, subst (λ (z : O × List E). stands v z.0 z.1) (λ i. (some_same from origin (sym begins ∙ mine.same_origin enough) i, sym listed i)) stood),
           );
-          fits = each_set (λ j v. Fits maker origin r.hand r.served r.drawn v) (λ j v. Fits maker origin x.list.value r.served r.drawn v) s.views id w
+          fits = each_set (λ j v. ViewFits maker origin r.hand r.served r.drawn v) (λ j v. ViewFits maker origin x.list.value r.served r.drawn v) s.views id w
               (record {
                 same_origin = mine.same_origin;
                 seen = ([], refl, tt);
@@ -291,16 +291,16 @@ module _ {T O E : Type 0} (stands : T → O → List E → Type 0) (maker : E �
               });
           apart = apart_set s.views id w r.apart (λ j u v other e is mine'. other (r.apart j id u v m.0 e at is (leaving_ticket u m.0.stage mine')));
           tickets = let e = same_total tickets_of s.views id m.0 w at (leaving_tickets m.0.stage) in let p = r.tickets in omega arith;
-          parts = same_total parts_of s.views id m.0 w at refl ∙ r.parts;
+          parts = same_total held_numbers s.views id m.0 w at refl ∙ r.parts;
           few = r.few;
           once = λ k. same_total (λ v. times k v.numbers) s.views id m.0 w at refl ∙ r.once k;
         },
         λ k y c e. (ap Rattle.atomic_table.specs.Table.rest e, ap (λ (z : Stored T E). plain_view m.0.origin z.list.value m.0.numbers (leaving m.0.stage) m.0.turns) (same_slot x y 0 k c [] (sym slot ∙ e))),
       )
 
-  pub serves : (slots id t : ℕ) (m : Seat) → m.0.stage ≡ Leaving t → Allows Rule slots id m 2 (λ n. (n + 1) % 2 ^ 64) (Served (step slots 2 1 0 none) m)
+  pub serves : (slots id t : ℕ) (m : Seat) → m.0.stage ≡ Leaving t → Allows Rule slots id m 2 (λ n. (n + 1) % 2 ^ 64) (ServedNext (step slots 2 1 0 none) m)
   serves slots id t m leaves s r _ at _ =
-      let old : ((j : ℕ) (v : View O E) → get_elem? s.views j ≡ some v → Fits maker origin r.hand r.served r.drawn v) = r.fits in
+      let old : ((j : ℕ) (v : View O E) → get_elem? s.views j ≡ some v → ViewFits maker origin r.hand r.served r.drawn v) = r.fits in
       let mine = old id m.0 at in
       let w = staged m.0 Idle in
       let has : has_ticket m.0.stage ≡ 1 = ap has_ticket leaves in
@@ -316,7 +316,7 @@ module _ {T O E : Type 0} (stands : T → O → List E → Type 0) (maker : E �
           words = ap (λ (ws : List ℕ). set ws 2 ((get_or ws 2 0 + 1) % 2 ^ 64)) r.words ∙ ap (λ (n : ℕ). length r.hand ∷ (r.drawn % 2 ^ 64) ∷ n ∷ []) (mod-add-mod r.served (2 ^ 64) 1);
           short = r.short;
           home = home_stays r.hand s.homes s.views id m.0 w at (λ h. absurd (subst IsHolding leaves h)) r.home;
-          fits = each_set (λ j v. Fits maker origin r.hand r.served r.drawn v) (λ j v. Fits maker origin r.hand (r.served + 1) r.drawn v) s.views id w
+          fits = each_set (λ j v. ViewFits maker origin r.hand r.served r.drawn v) (λ j v. ViewFits maker origin r.hand (r.served + 1) r.drawn v) s.views id w
               (record { same_origin = mine.same_origin; seen = mine.seen; placed = tt; holds = λ h. absurd h; enough = omega arith; begun = tt })
               (λ j v other e. let f = old j v e in record {
                 same_origin = f.same_origin;
@@ -328,16 +328,16 @@ module _ {T O E : Type 0} (stands : T → O → List E → Type 0) (maker : E �
               });
           apart = apart_set s.views id w r.apart (λ j u v other e is mine'. mine');
           tickets = (let e = total_set tickets_of s.views id m.0 w at in let p = r.tickets in omega arith);
-          parts = same_total parts_of s.views id m.0 w at refl ∙ r.parts;
+          parts = same_total held_numbers s.views id m.0 w at refl ∙ r.parts;
           few = r.few;
           once = λ k. same_total (λ v. times k v.numbers) s.views id m.0 w at refl ∙ r.once k;
         },
         (refl, refl),
       )
 
-  pub counts : (slots id : ℕ) (m : Seat) → Allows Rule slots id m 0 (λ n. n) (Counted (step slots 0 0 0 none) m)
+  pub counts : (slots id : ℕ) (m : Seat) → Allows Rule slots id m 0 (λ n. n) (LookedAtCount (step slots 0 0 0 none) m)
   counts slots id m s r _ at _ =
-      let old : ((j : ℕ) (v : View O E) → get_elem? s.views j ≡ some v → Fits maker origin r.hand r.served r.drawn v) = r.fits in
+      let old : ((j : ℕ) (v : View O E) → get_elem? s.views j ≡ some v → ViewFits maker origin r.hand r.served r.drawn v) = r.fits in
       let mine = old id m.0 at in
       let word : (get_or s.words 0 0) ≡ length r.hand = ap (λ (ws : List ℕ). get_or ws 0 0) r.words in
       let longer : length r.hand ≡ length mine.seen.0 + length m.0.list = ap length mine.seen.1 ∙ length-append mine.seen.0 m.0.list in
@@ -345,10 +345,10 @@ module _ {T O E : Type 0} (stands : T → O → List E → Type 0) (maker : E �
 
   pub exchanged_raises : (slots id new t : ℕ) (p m : Seat) (x y : Stored T E) (v : T) (list later : List E) (from : O) → m ≡ (p.0, (0, x) ∷ Rattle.atomic_table.specs.Table.rest p.1) → p.1 ≡ (0, y) ∷ [] → p.0.stage ≡ Holding t
       → x.value ≡ Some v → x.list.value ≡ list
-      → p.0.origin ≡ Some from → stands v from list → new ≡ length list → new < 2 ^ 64 → list ≡ later ++ p.0.list → EachBy maker p.0.numbers later
-      → Allows Rule slots id m 0 (λ _. new) (λ _. Raised (step slots 0 new 0 none) m new)
+      → p.0.origin ≡ Some from → stands v from list → new ≡ length list → new < 2 ^ 64 → list ≡ later ++ p.0.list → EachByThese maker p.0.numbers later
+      → Allows Rule slots id m 0 (λ _. new) (λ _. RaisedCount (step slots 0 new 0 none) m new)
   exchanged_raises slots id new t p m x y v list later from is slot holding value listed begins stood len short grows own =
-      subst (λ (z : Seat). Allows Rule slots id z 0 (λ _. new) (λ _. Raised (step slots 0 new 0 none) z new)) (sym is)
+      subst (λ (z : Seat). Allows Rule slots id z 0 (λ _. new) (λ _. RaisedCount (step slots 0 new 0 none) z new)) (sym is)
       (raises slots id new t (p.0, (0, x) ∷ Rattle.atomic_table.specs.Table.rest p.1) x v list later from (ap (λ (c : List (ℕ × Stored T E)). (0, x) ∷ Rattle.atomic_table.specs.Table.rest c) slot) holding value listed begins stood len short grows own)
 
 module _ {T O E : Type 0} where
@@ -363,7 +363,7 @@ module _ {T O E : Type 0} where
 
   -- a seat after it gave its value back
   pub gave : (p m n : Me (Stored T E) (View O E)) (x y : Stored T E) (list : List E) (t : ℕ)
-      → m ≡ (p.0, (0, x) ∷ Rattle.atomic_table.specs.Table.rest p.1) → p.1 ≡ (0, y) ∷ [] → p.0.stage ≡ Holding t → x.list.value ≡ list → Raised (step 0 0 0 0 none) m 0 n
+      → m ≡ (p.0, (0, x) ∷ Rattle.atomic_table.specs.Table.rest p.1) → p.1 ≡ (0, y) ∷ [] → p.0.stage ≡ Holding t → x.list.value ≡ list → RaisedCount (step 0 0 0 0 none) m 0 n
       → (n.1 ≡ []) × (n.0 ≡ plain_view p.0.origin list p.0.numbers (Leaving t) p.0.turns)
   gave p m n x y list t is slot holding listed told =
       let slots : m.1 ≡ (0, x) ∷ [] = ap (λ (z : Me (Stored T E) (View O E)). z.1) is ∙ ap (λ (z : List (ℕ × Stored T E)). (0, x) ∷ Rattle.atomic_table.specs.Table.rest z) slot in

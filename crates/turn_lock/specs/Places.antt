@@ -27,8 +27,8 @@ module _ {T O E : Type 0} where
   abbrev pub HasValue : Place T O E → Type 0
   HasValue p = (x : Stored T E) × (v : T) × (p.me.1 ≡ (0, x) ∷ []) × (x.value ≡ Some v)
 
-  abbrev pub Gives : Place T O E → T → Type 0
-  Gives p value = (x : Stored T E) (c : List (ℕ × Stored T E)) → p.me.1 ≡ (0, x) ∷ c → x.value ≡ Some value
+  abbrev pub GivesValue : Place T O E → T → Type 0
+  GivesValue p value = (x : Stored T E) (c : List (ℕ × Stored T E)) → p.me.1 ≡ (0, x) ∷ c → x.value ≡ Some value
 
   -- what a join tells
   pub record TookIn (maker : E → ℕ) (old other new : Place T O E) : Type 0 where

@@ -11,9 +11,9 @@ use Rattle.turn_lock.specs.declared.view.Stage.{Stage}
 use Rattle.turn_lock.specs.declared.view.Stage.TheVariants.{Idle, Waiting, Holding, Leaving}
 use Rattle.turn_lock.specs.Entries.{times, below, GoesOnByOthers}
 
-abbrev pub total : {V : Type 0} → (V → ℕ) → List V → ℕ
-total f [] = 0
-total f (v ∷ vs) = f v + total f vs
+abbrev pub sum_over : {V : Type 0} → (V → ℕ) → List V → ℕ
+sum_over f [] = 0
+sum_over f (v ∷ vs) = f v + sum_over f vs
 
 abbrev pub has_ticket : Stage → ℕ
 has_ticket Idle = 0
@@ -42,8 +42,8 @@ module _ {O E : Type 0} where
   abbrev pub tickets_of : View O E → ℕ
   tickets_of v = has_ticket v.stage
 
-  abbrev pub parts_of : View O E → ℕ
-  parts_of v = length v.numbers
+  abbrev pub held_numbers : View O E → ℕ
+  held_numbers v = length v.numbers
 
   -- a view that wasn't just made by a join
   abbrev pub plain_view : Option O → List E → List ℕ → Stage → ℕ → View O E
@@ -55,7 +55,7 @@ module _ {O E : Type 0} where
   AllBegin maker origin list (f ∷ fs) = ((f.origin ≡ origin) × GoesOnByOthers maker f.numbers f.list list) × AllBegin maker origin list fs
 
   -- what a view knows is so, where `hand` is the list at hand
-  pub record Fits (maker : E → ℕ) (origin : O) (hand : List E) (served drawn : ℕ) (v : View O E) : Type 0 where
+  pub record ViewFits (maker : E → ℕ) (origin : O) (hand : List E) (served drawn : ℕ) (v : View O E) : Type 0 where
     pub same_origin : 0 < length v.numbers → v.origin ≡ Some origin
     pub seen : GoesOnByOthers maker v.numbers v.list hand
     pub placed : IsPlaced served drawn v.stage
@@ -63,34 +63,34 @@ module _ {O E : Type 0} where
     pub enough : has_ticket v.stage ≤ length v.numbers
     pub begun : AllBegin maker v.origin v.list v.joined
 
-  abbrev pub EachFits : (E → ℕ) → O → List E → ℕ → ℕ → List (View O E) → Type 0
-  EachFits maker origin hand served drawn views = (j : ℕ) (v : View O E) → get_elem? views j ≡ opt.some v → Fits maker origin hand served drawn v
+  abbrev pub EachViewFits : (E → ℕ) → O → List E → ℕ → ℕ → List (View O E) → Type 0
+  EachViewFits maker origin hand served drawn views = (j : ℕ) (v : View O E) → get_elem? views j ≡ opt.some v → ViewFits maker origin hand served drawn v
 
   -- no two views have one ticket
-  abbrev pub Apart : List (View O E) → Type 0
-  Apart views = (i j t : ℕ) (v w : View O E) → get_elem? views i ≡ opt.some v → get_elem? views j ≡ opt.some w → IsTicket t v.stage → IsTicket t w.stage → i ≡ j
+  abbrev pub TicketsDiffer : List (View O E) → Type 0
+  TicketsDiffer views = (i j t : ℕ) (v w : View O E) → get_elem? views i ≡ opt.some v → get_elem? views j ≡ opt.some w → IsTicket t v.stage → IsTicket t w.stage → i ≡ j
 
 module _ {T O E : Type 0} (stands : T → O → List E → Type 0) where
   abbrev pub IsStored : O → List E → Stored T E → Type 0
   IsStored origin hand x = (v : T) × (x.value ≡ Some v) × (x.list.value ≡ hand) × stands v origin hand
 
   -- the slot is at home with the value, or out with a view that has the turn
-  abbrev pub IsAt : O → List E → List (opt.Option (Stored T E)) → List (View O E) → Type 0
-  IsAt origin hand homes views =
+  abbrev pub IsSlotAt : O → List E → List (opt.Option (Stored T E)) → List (View O E) → Type 0
+  IsSlotAt origin hand homes views =
       ((x : Stored T E) × (homes ≡ opt.some x ∷ []) × IsStored origin hand x)
       ⊎ ((homes ≡ opt.none ∷ []) × ((j : ℕ) × (v : View O E) × (get_elem? views j ≡ opt.some v) × IsHolding v.stage))
 
   -- the list at hand is that of the value at home, or, while the slot is out, of the view with the turn
-  pub record IsKept (maker : E → ℕ) (origin : O) (count : ℕ) (s : State (Stored T E) (View O E)) : Type 0 where
+  pub record KeepsTurns (maker : E → ℕ) (origin : O) (count : ℕ) (s : State (Stored T E) (View O E)) : Type 0 where
     pub hand : List E
     pub served : ℕ
     pub drawn : ℕ
     pub words : s.words ≡ length hand ∷ (drawn % 2 ^ 64) ∷ (served % 2 ^ 64) ∷ []
     pub short : length hand < 2 ^ 64
-    pub home : IsAt origin hand s.homes s.views
-    pub fits : EachFits maker origin hand served drawn s.views
-    pub apart : Apart s.views
-    pub tickets : total tickets_of s.views + served ≡ drawn
-    pub parts : total parts_of s.views ≡ count
+    pub home : IsSlotAt origin hand s.homes s.views
+    pub fits : EachViewFits maker origin hand served drawn s.views
+    pub apart : TicketsDiffer s.views
+    pub tickets : sum_over tickets_of s.views + served ≡ drawn
+    pub parts : sum_over held_numbers s.views ≡ count
     pub few : count < 2 ^ 32
-    pub once : (k : ℕ) → total (λ v. times k v.numbers) s.views ≡ times k (below count)
+    pub once : (k : ℕ) → sum_over (λ v. times k v.numbers) s.views ≡ times k (below count)

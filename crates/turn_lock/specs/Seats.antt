@@ -8,14 +8,18 @@ use Rattle.turn_lock.specs.declared.view.Stage.{Stage}
 use Rattle.turn_lock.specs.declared.view.Stage.TheVariants.{Idle, Waiting, Holding, Leaving}
 use Rattle.turn_lock.specs.Entries.{longer, GoesOnByOthers}
 
+-- which lock it is
+abbrev pub LockId : Type 0
+LockId = TableId
+
 -- which lock it is, and how many numbers there are: its seats hold those below
 pub record LockView : Type 0 where
-  pub id : TableId
+  pub id : LockId
   pub numbers : ℕ
 
 -- the lock that it is a seat of, where the lock's lists begin, the list that it has seen, the newest entry first, the numbers that it holds, whether it has the turn, and how many turns it had
 pub record SeatView (O E : Type 0) : Type 0 where
-  pub lock : TableId
+  pub lock : LockId
   pub origin : O
   pub seen : List E
   pub numbers : List ℕ
@@ -24,7 +28,7 @@ pub record SeatView (O E : Type 0) : Type 0 where
 
 module _ {O E : Type 0} where
   -- a seat without the turn that had none yet
-  abbrev pub fresh_seat : TableId → O → List E → List ℕ → SeatView O E
+  abbrev pub fresh_seat : LockId → O → List E → List ℕ → SeatView O E
   fresh_seat lock origin seen numbers = record { lock = lock; origin = origin; seen = seen; numbers = numbers; has_turn = false; turns = 0 }
 
   -- the seat took in the other: it has the numbers of both, and the longer list; each of the two lists it begins with, and goes on by entries of others
@@ -35,18 +39,18 @@ module _ {O E : Type 0} where
     pub others : GoesOnByOthers maker other.numbers other.seen new.seen
 
   -- the value stands for a list that begins with what the seat has seen, and goes on by entries of others
-  abbrev pub EndsWith : {T : Type 0} → (T → O → List E → Type 0) → (E → ℕ) → SeatView O E → T → Type 0
-  EndsWith stands maker seat value = (list : List E) × stands value seat.origin list × GoesOnByOthers maker seat.numbers seat.seen list
+  abbrev pub StandsBeyond : {T : Type 0} → (T → O → List E → Type 0) → (E → ℕ) → SeatView O E → T → Type 0
+  StandsBeyond stands maker seat value = (list : List E) × stands value seat.origin list × GoesOnByOthers maker seat.numbers seat.seen list
 
-abbrev pub is_holding : Stage → Bool
-is_holding Idle = false
-is_holding (Waiting t) = false
-is_holding (Holding t) = true
-is_holding (Leaving t) = false
+abbrev pub has_turn_at : Stage → Bool
+has_turn_at Idle = false
+has_turn_at (Waiting t) = false
+has_turn_at (Holding t) = true
+has_turn_at (Leaving t) = false
 
 module _ {T O E : Type 0} where
   abbrev pub seat_of : TableSeat (Stored T E) (View O E) → O → SeatView O E
-  seat_of place origin = record { lock = place.table_id; origin = origin; seen = place.me.0.list; numbers = place.me.0.numbers; has_turn = is_holding place.me.0.stage; turns = place.me.0.turns }
+  seat_of place origin = record { lock = place.table_id; origin = origin; seen = place.me.0.list; numbers = place.me.0.numbers; has_turn = has_turn_at place.me.0.stage; turns = place.me.0.turns }
 
   -- it neither waits nor has the slot
   abbrev pub IsFree : TableSeat (Stored T E) (View O E) → Type 0

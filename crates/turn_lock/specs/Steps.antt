@@ -20,7 +20,7 @@ use Rattle.turn_lock.specs.declared.view.Stored.{Stored}
 use Rattle.turn_lock.specs.declared.view.Front.{Front}
 use Rattle.turn_lock.specs.declared.view.Stage.{Stage}
 use Rattle.turn_lock.specs.declared.view.Stage.TheVariants.{Idle, Waiting, Holding, Leaving}
-use Rattle.turn_lock.specs.Entries.{without, longer, GoesOnByOthers}
+use Rattle.turn_lock.specs.Entries.{without_first, longer, GoesOnByOthers}
 use Rattle.turn_lock.specs.Rule.{plain_view, AllBegin}
 
 abbrev pub leaving : Stage → Stage
@@ -41,11 +41,11 @@ module _ {O E : Type 0} where
   abbrev pub staged : View O E → Stage → View O E
   staged v s = plain_view v.origin v.list v.numbers s v.turns
 
-  abbrev pub numbered : View O E → List ℕ → View O E
-  numbered v ns = plain_view v.origin v.list ns v.stage v.turns
+  abbrev pub with_numbers : View O E → List ℕ → View O E
+  with_numbers v ns = plain_view v.origin v.list ns v.stage v.turns
 
   abbrev pub left_part : View O E → View O E
-  left_part v = numbered v (tail_of v.numbers)
+  left_part v = with_numbers v (tail_of v.numbers)
 
   abbrev pub right_part : View O E → View O E
   right_part v = plain_view v.origin v.list (head_only v.numbers) Idle 0
@@ -64,8 +64,8 @@ abbrev pub Sat : Type 0 → Type 0 → Type 0 → Type 0
 Sat T O E = Me (Stored T E) (View O E)
 
 module _ {T O E : Type 0} where
-  abbrev pub Drew : Step (Stored T E) → Sat T O E → ℕ → Sat T O E → Type 0
-  Drew st m r m' = (m'.1 ≡ m.1) × ((t : ℕ) × (m'.0 ≡ staged m.0 (Waiting t)) × (r ≡ t % 2 ^ 64))
+  abbrev pub DrewTicket : Step (Stored T E) → Sat T O E → ℕ → Sat T O E → Type 0
+  DrewTicket st m r m' = (m'.1 ≡ m.1) × ((t : ℕ) × (m'.0 ≡ staged m.0 (Waiting t)) × (r ≡ t % 2 ^ 64))
 
   -- the turn came, with the value
   pub record Comes (stands : T → O → List E → Type 0) (maker : E → ℕ) (m : Sat T O E) (t : ℕ) (m' : Sat T O E) : Type 0 where
@@ -77,21 +77,21 @@ module _ {T O E : Type 0} where
     pub seen : GoesOnByOthers maker m.0.numbers m.0.list stored.list.value
     pub stood : (o : O) → m.0.origin ≡ Some o → stands value o stored.list.value
 
-  abbrev pub Looked : (T → O → List E → Type 0) → (E → ℕ) → Step (Stored T E) → Sat T O E → ℕ → Sat T O E → Type 0
-  Looked stands maker st m r m' = (t : ℕ) → m.0.stage ≡ Waiting t → (r ≡ t % 2 ^ 64 → Comes stands maker m t m') × (¬ (r ≡ t % 2 ^ 64) → m' ≡ m)
+  abbrev pub LookedAtServing : (T → O → List E → Type 0) → (E → ℕ) → Step (Stored T E) → Sat T O E → ℕ → Sat T O E → Type 0
+  LookedAtServing stands maker st m r m' = (t : ℕ) → m.0.stage ≡ Waiting t → (r ≡ t % 2 ^ 64 → Comes stands maker m t m') × (¬ (r ≡ t % 2 ^ 64) → m' ≡ m)
 
-  abbrev pub Raised : Step (Stored T E) → Sat T O E → ℕ → Sat T O E → Type 0
-  Raised st m r m' = (k : ℕ) (x : Stored T E) (c : List (ℕ × Stored T E)) → m.1 ≡ (k, x) ∷ c
+  abbrev pub RaisedCount : Step (Stored T E) → Sat T O E → ℕ → Sat T O E → Type 0
+  RaisedCount st m r m' = (k : ℕ) (x : Stored T E) (c : List (ℕ × Stored T E)) → m.1 ≡ (k, x) ∷ c
       → (m'.1 ≡ c) × (m'.0 ≡ plain_view m.0.origin x.list.value m.0.numbers (leaving m.0.stage) m.0.turns)
 
-  abbrev pub Served : Step (Stored T E) → Sat T O E → ℕ → Sat T O E → Type 0
-  Served st m r m' = (m'.1 ≡ m.1) × (m'.0 ≡ staged m.0 Idle)
+  abbrev pub ServedNext : Step (Stored T E) → Sat T O E → ℕ → Sat T O E → Type 0
+  ServedNext st m r m' = (m'.1 ≡ m.1) × (m'.0 ≡ staged m.0 Idle)
 
-  abbrev pub Counted : Step (Stored T E) → Sat T O E → ℕ → Sat T O E → Type 0
-  Counted st m r m' = (m' ≡ m) × (length m.0.list ≤ r)
+  abbrev pub LookedAtCount : Step (Stored T E) → Sat T O E → ℕ → Sat T O E → Type 0
+  LookedAtCount st m r m' = (m' ≡ m) × (length m.0.list ≤ r)
 
-  abbrev pub Brought : Step (Stored T E) → Sat T O E → ℕ → Sat T O E → Type 0
-  Brought st m r m' = (m'.1 ≡ m.1) × (m'.0 ≡ numbered m.0 (st.first ∷ without st.first m.0.numbers))
+  abbrev pub BroughtNumber : Step (Stored T E) → Sat T O E → ℕ → Sat T O E → Type 0
+  BroughtNumber st m r m' = (m'.1 ≡ m.1) × (m'.0 ≡ with_numbers m.0 (st.first ∷ without_first st.first m.0.numbers))
 
   abbrev pub LookedBack : (E → ℕ) → Step (Stored T E) → Sat T O E → ℕ → Sat T O E → Type 0
   LookedBack maker st m r m' = (m' ≡ (staged m.0 m.0.stage, m.1)) × AllBegin maker m.0.origin m.0.list m.0.joined

@@ -24,12 +24,12 @@ impl<T: Recorded> TableRule<
     View<T::Origin, T::Entry>,
     Opening<T::Origin, T::Entry>,
 > for Turns<T> {
-    ghost use Rattle.turn_lock.specs.Rule.{IsKept, plain_view};
+    ghost use Rattle.turn_lock.specs.Rule.{KeepsTurns, plain_view};
     ghost use Rattle.turn_lock.specs.Entries.{below};
     ghost use Rattle.turn_lock.specs.declared.view.Stage.TheVariants.{Idle};
     ghost use Rattle.std.specs.Prelude.{Some};
 
-    ghost holds = { λ k. IsKept T.stands T.maker k.origin.value k.numbers };
+    ghost holds = { λ k. KeepsTurns T.stands T.maker k.origin.value k.numbers };
 
     ghost first = { λ k. plain_view (Some k.origin.value) k.list.value (below k.numbers) Idle 0 };
 }

@@ -1,7 +1,7 @@
 //! The first and the last call of a lock.
 ghost use Rattle.std.specs.Prelude.{◌≡◌, ℕ, ◌<◌, ◌∷◌, [], false, IfOk};
 ghost use Rattle.turn_lock.specs.Entries.{Holds, below};
-ghost use Rattle.turn_lock.specs.Seats.{fresh_seat, EndsWith};
+ghost use Rattle.turn_lock.specs.Seats.{fresh_seat, StandsBeyond};
 
 use crate::Recorded;
 use crate::lock::TurnLock;
@@ -72,7 +72,7 @@ impl<T: Recorded + Drop> TurnLock<T> {
         requires own { seat.lock ≡ self.id }
         requires free { seat.has_turn ≡ false }
         requires every { (k : ℕ) → k < self.numbers → Holds seat.numbers k }
-        ensures { EndsWith T.stands T.maker seat result }
+        ensures { StandsBeyond T.stands T.maker seat result }
     {
         let TurnLock { table } = self;
         let Seat {

@@ -1,10 +1,10 @@
 //! Seats of a lock that are split and joined.
 ghost use Rattle.std.specs.Prelude.{◌≡◌, ◌<◌, ◌∷◌, [], false, length};
-ghost use Rattle.turn_lock.specs.Entries.{Holds, without};
+ghost use Rattle.turn_lock.specs.Entries.{Holds, without_first};
 ghost use Rattle.turn_lock.specs.Places.{IsAtTable, IsSamePlace, TookIn};
 ghost use Rattle.turn_lock.specs.Rule.{plain_view};
 ghost use Rattle.turn_lock.specs.Seats.{IsFree, fresh_seat, Joined};
-ghost use Rattle.turn_lock.specs.Steps.{numbered};
+ghost use Rattle.turn_lock.specs.Steps.{with_numbers};
 ghost use Rattle.turn_lock.specs.declared.view.Stage.TheVariants.{Idle};
 
 use crate::Recorded;
@@ -17,7 +17,7 @@ fn part<T: Recorded>(table: &SharedTable<T>, place: &mut Place<T>, number: u64) 
     requires free { IsFree place.old }
     requires holds { Holds place.old.me.0.numbers number }
     ensures own { IsSamePlace place.old place.new × IsFree place.new }
-    ensures kept { place.new.me.0 ≡ numbered place.old.me.0 (without number place.old.me.0.numbers) }
+    ensures kept { place.new.me.0 ≡ with_numbers place.old.me.0 (without_first number place.old.me.0.numbers) }
     ensures given { (result.table_id ≡ place.old.table_id) × IsFree result
         × (result.me.0 ≡ plain_view place.old.me.0.origin place.old.me.0.list (number ∷ []) Idle 0) }
 {
@@ -44,7 +44,7 @@ impl<T: Recorded + Drop> TurnLock<T> {
         requires free { seat.old.has_turn ≡ false }
         requires holds { Holds seat.old.numbers number }
         requires more { 1 < length seat.old.numbers }
-        ensures kept { seat.new ≡ record seat.old { numbers = without number seat.old.numbers } }
+        ensures kept { seat.new ≡ record seat.old { numbers = without_first number seat.old.numbers } }
         ensures given { result ≡ fresh_seat seat.old.lock seat.old.origin seat.old.seen (number ∷ []) }
     {
         let place = part(&self.table.shared, &mut seat.place, u64::from(number));

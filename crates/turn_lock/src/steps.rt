@@ -1,5 +1,5 @@
 //! The kinds of step, each with what it tells.
-ghost use Rattle.turn_lock.specs.Steps.{Drew, Looked, Raised, Served, Counted, Brought, LookedBack, left_part, right_part, both_parts, spent_part};
+ghost use Rattle.turn_lock.specs.Steps.{DrewTicket, LookedAtServing, RaisedCount, ServedNext, LookedAtCount, BroughtNumber, LookedBack, left_part, right_part, both_parts, spent_part};
 
 use crate::Recorded;
 use crate::view::{Stored, View};
@@ -9,37 +9,37 @@ use std::marker::PhantomData;
 pub(crate) struct Draw;
 
 impl<T, O, E> Play<Stored<T, E>, View<O, E>> for Draw {
-    ghost then = { Drew };
+    ghost then = { DrewTicket };
 }
 
 pub(crate) struct Look<T>(PhantomData<T>);
 
 impl<T: Recorded> Play<Stored<T, T::Entry>, View<T::Origin, T::Entry>> for Look<T> {
-    ghost then = { Looked T.stands T.maker };
+    ghost then = { LookedAtServing T.stands T.maker };
 }
 
 pub(crate) struct Raise;
 
 impl<T, O, E> Play<Stored<T, E>, View<O, E>> for Raise {
-    ghost then = { Raised };
+    ghost then = { RaisedCount };
 }
 
 pub(crate) struct Serve;
 
 impl<T, O, E> Play<Stored<T, E>, View<O, E>> for Serve {
-    ghost then = { Served };
+    ghost then = { ServedNext };
 }
 
 pub(crate) struct Count;
 
 impl<T, O, E> Play<Stored<T, E>, View<O, E>> for Count {
-    ghost then = { Counted };
+    ghost then = { LookedAtCount };
 }
 
 pub(crate) struct Bring;
 
 impl<T, O, E> Play<Stored<T, E>, View<O, E>> for Bring {
-    ghost then = { Brought };
+    ghost then = { BroughtNumber };
 }
 
 pub(crate) struct LookBack<T>(PhantomData<T>);

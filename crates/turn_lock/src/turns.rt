@@ -4,7 +4,7 @@ ghost use Rattle.turn_lock.specs.Entries.{GoesOnByOwn};
 ghost use Rattle.turn_lock.specs.Rule.{plain_view};
 ghost use Rattle.turn_lock.specs.Seats.{IsFree, HasSlot, HasTurn};
 ghost use Rattle.turn_lock.specs.Steps.{staged, Comes};
-ghost use Rattle.turn_lock.specs.Places.{IsAtTable, IsSamePlace, HasValue, Gives, Took};
+ghost use Rattle.turn_lock.specs.Places.{IsAtTable, IsSamePlace, HasValue, GivesValue, Took};
 ghost use Rattle.turn_lock.specs.declared.view.Stage.TheVariants.{Idle, Waiting};
 
 use crate::Recorded;
@@ -38,7 +38,7 @@ fn look<T: Recorded>(table: &SharedTable<T>, place: &mut Place<T>, ticket: u64) 
 fn lift<T: Recorded + Drop>(table: &SharedTable<T>, place: &mut Place<T>) -> T
     requires own { IsAtTable place.old table.now.table_id }
     requires value { HasValue place.old }
-    ensures { IsSamePlace place.old place.new × (place.new.me.0 ≡ place.old.me.0) × HasSlot place.new × Gives place.old result }
+    ensures { IsSamePlace place.old place.new × (place.new.me.0 ≡ place.old.me.0) × HasSlot place.new × GivesValue place.old result }
 {
     let Stored { value, list: _ } = table.exchange(
         place,

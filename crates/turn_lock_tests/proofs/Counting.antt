@@ -4,7 +4,7 @@ use Rattle.std.specs.Prelude.{OnOk, OnErr}
 use Rattle.std.proofs.lemmas.List.{reverse-append}
 use mathlib.Core.Logic.{dite}
 use native.Mathlib.Decide.{ℕ_discrete}
-use Rattle.turn_lock.specs.Entries.{times, below, without, NoneBy, GoesOnByOthers, GoesOnByOwn}
+use Rattle.turn_lock.specs.Entries.{times, below, without_first, NoneByThese, GoesOnByOthers, GoesOnByOwn}
 use Rattle.turn_lock_tests.specs.Numbers.{itself}
 
 pub times_append : (k : ℕ) (xs ys : List ℕ) → times k (xs ++ ys) ≡ times k xs + times k ys
@@ -12,7 +12,7 @@ times_append k [] ys = omega arith
 times_append k (x ∷ xs) ys = let i = times_append k xs ys in omega arith
 
 -- a number that is held stands nowhere among the entries of others
-none_held : (k : ℕ) (ns xs : List ℕ) → 0 < times k ns → NoneBy itself ns xs → times k xs ≡ 0
+none_held : (k : ℕ) (ns xs : List ℕ) → 0 < times k ns → NoneByThese itself ns xs → times k xs ≡ 0
 none_held k ns [] held none = refl
 none_held k ns (x ∷ xs) held none = dite (ℕ_discrete x k)
     (λ e. let z : times k ns ≡ 0 = subst (λ (n : ℕ). times n ns ≡ 0) e none.0 in absurd (omega arith))
@@ -61,19 +61,19 @@ last_of t some = omega arith
 pub more_numbers : (t : ℕ) (ns : List ℕ) → 0 < t → t ≢ 1 → ns ≡ below t → 1 < length ns
 more_numbers t ns some many is = let l = ap length is in let b = length_below t in omega arith
 
-without_head : (m : ℕ) (ns : List ℕ) → without m (m ∷ ns) ≡ ns
+without_head : (m : ℕ) (ns : List ℕ) → without_first m (m ∷ ns) ≡ ns
 without_head m ns = let is : eqb m m ≡ true = eq-eqb m m refl in rw is refl
 
 -- the numbers without the last
-numbers_left : (t : ℕ) (ns left : List ℕ) → 0 < t → ns ≡ below t → left ≡ without (t - 1) ns → left ≡ below (t - 1)
+numbers_left : (t : ℕ) (ns left : List ℕ) → 0 < t → ns ≡ below t → left ≡ without_first (t - 1) ns → left ≡ below (t - 1)
 numbers_left t ns left some is parted =
     let b : below t ≡ (t - 1) ∷ below (t - 1) = ap below (last_of t some) in
-    parted ∙ (ap (λ (z : List ℕ). without (t - 1) z) (is ∙ b) ∙ without_head (t - 1) (below (t - 1)))
+    parted ∙ (ap (λ (z : List ℕ). without_first (t - 1) z) (is ∙ b) ∙ without_head (t - 1) (below (t - 1)))
 
-pub without_last : (t k : ℕ) (ns left : List ℕ) → 0 < t → ns ≡ below t → left ≡ without (t - 1) ns → times k left ≡ times k (below (t - 1))
+pub without_last : (t k : ℕ) (ns left : List ℕ) → 0 < t → ns ≡ below t → left ≡ without_first (t - 1) ns → times k left ≡ times k (below (t - 1))
 without_last t k ns left some is parted = ap (times k) (numbers_left t ns left some is parted)
 
-pub joined_numbers : (t k : ℕ) (ns left mine theirs joined : List ℕ) → 0 < t → ns ≡ below t → left ≡ without (t - 1) ns → ((k : ℕ) → times k mine ≡ times k left) → theirs ≡ (t - 1) ∷ [] → joined ≡ mine ++ theirs → times k joined ≡ times k ns
+pub joined_numbers : (t k : ℕ) (ns left mine theirs joined : List ℕ) → 0 < t → ns ≡ below t → left ≡ without_first (t - 1) ns → ((k : ℕ) → times k mine ≡ times k left) → theirs ≡ (t - 1) ∷ [] → joined ≡ mine ++ theirs → times k joined ≡ times k ns
 joined_numbers t k ns left mine theirs joined some is parted m o j =
     let a = ap (times k) j in
     let b = times_append k mine theirs in

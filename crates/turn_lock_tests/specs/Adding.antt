@@ -11,8 +11,8 @@ abbrev pub IsSameSeat : Seat → Seat → Type 0
 IsSameSeat old new = new ≡ record old { seen = new.seen; turns = new.turns }
 
 -- the same seat, without the turn as before
-abbrev pub IsSamePlace : Seat → Seat → Type 0
-IsSamePlace old new = (new.lock ≡ old.lock) × (new.origin ≡ old.origin) × (new.has_turn ≡ old.has_turn)
+abbrev pub IsOfSameLock : Seat → Seat → Type 0
+IsOfSameLock old new = (new.lock ≡ old.lock) × (new.origin ≡ old.origin) × (new.has_turn ≡ old.has_turn)
 
 -- the same seat, which had so many turns more
 abbrev pub IsLater : Seat → ℕ → Seat → Type 0

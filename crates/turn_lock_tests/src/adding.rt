@@ -2,7 +2,7 @@
 ghost use Rattle.std.specs.Thread.{IsSync};
 ghost use Rattle.std.specs.Prelude.{◌≡◌, ℕ, ◌+◌, ◌<◌, ◌∷◌, [], false, IfOk, OnOk};
 ghost use Rattle.turn_lock.specs.Entries.{times, below};
-ghost use Rattle.turn_lock_tests.specs.Adding.{IsSameSeat, IsSamePlace, IsLater, IsMore};
+ghost use Rattle.turn_lock_tests.specs.Adding.{IsSameSeat, IsOfSameLock, IsLater, IsMore};
 
 use crate::Numbers;
 use known::Known;
@@ -64,7 +64,7 @@ pub fn add_by_threads<R: Threads + Wait + Sync>(
     requires free { seat.old.has_turn ≡ false }
     requires some { 0 < threads }
     requires numbers { seat.old.numbers ≡ below threads }
-    ensures same { IsSamePlace seat.old seat.new }
+    ensures same { IsOfSameLock seat.old seat.new }
     ensures numbers { (k : ℕ) → times k seat.new.numbers ≡ times k seat.old.numbers }
     ensures added { OnOk result ((k : ℕ) → k < threads → IsMore seat.old k turns seat.new) }
 {
@@ -77,7 +77,7 @@ pub fn add_by_threads<R: Threads + Wait + Sync>(
         rt,
         &mut ||
             requires { IsSync R.row × (seat.now.lock ≡ lock.now.id) × (seat.now.has_turn ≡ false) × (0 < number) × (seat.now.numbers ≡ below number) }
-            ensures { IsSamePlace seat.entry.now seat.exit.now × ((k : ℕ) → times k seat.exit.now.numbers ≡ times k seat.entry.now.numbers) × OnOk result ((k : ℕ) → k < number → IsMore seat.entry.now k turns seat.exit.now) }
+            ensures { IsOfSameLock seat.entry.now seat.exit.now × ((k : ℕ) → times k seat.exit.now.numbers ≡ times k seat.entry.now.numbers) × OnOk result ((k : ℕ) → k < number → IsMore seat.entry.now k turns seat.exit.now) }
         { add_by_threads(rt, lock, seat, number, turns) },
         &mut || add_all(rt, lock, &mut other, number, turns),
     );
