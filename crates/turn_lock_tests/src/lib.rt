@@ -2,9 +2,11 @@
 #![tactic(auto)]
 
 mod adding;
+mod holding;
 mod numbers;
 
 pub use adding::{add, add_all, add_by_threads, numbers_of_threads};
+pub use holding::{Holder, holder_of, look_in};
 pub use numbers::Numbers;
 
 #[cfg(test)]

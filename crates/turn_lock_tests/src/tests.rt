@@ -1,5 +1,5 @@
 //! Threads that take turns, and the calls on one thread.
-use crate::{Numbers, add, numbers_of_threads};
+use crate::{Numbers, add, holder_of, look_in, numbers_of_threads};
 use known::Known;
 use std::test::Fail;
 use turn_lock::TurnLock;
@@ -56,5 +56,19 @@ fn two_seats_on_one_thread(rt: HostRuntime) -> Result<(), Fail> {
     let _seen = seat.seen();
     let numbers = lock.close(seat);
     assert!(rt; numbers.items.as_slice() == [1, 0, 1].as_slice());
+    Ok(())
+}
+
+#[test]
+fn a_held_seat_takes_a_turn(rt: HostRuntime) -> Result<(), Fail> {
+    let numbers = Numbers::new(rt.alloc());
+    let list = numbers.list();
+    let made = TurnLock::new(rt.alloc(), numbers, 1, Known::of(), list);
+    let Ok((lock, seat)) = made else {
+        panic!(&rt; "no memory");
+    };
+    let mut holder = holder_of::<Numbers>(seat, 0);
+    look_in(&rt, &lock, &mut holder);
+    assert!(rt; holder.seat.turns() == 1);
     Ok(())
 }
