@@ -3,7 +3,9 @@ use Rattle.std.specs.Prelude.{ℕ, List, [], ◌∷◌, map, take, codes}
 use Rattle.serde_json.specs.Data.{Data, boolean, number, string, array, object, unsigned, item, no_items, member, no_members}
 use Rattle.serde_json.specs.View.{items_of}
 use Rattle.txg_core.specs.declared.event.Event.{Event}
-use Rattle.txg_core.specs.declared.event.Event.TheVariants as event
+use Rattle.txg_core.specs.declared.event.EventParts.{EventParts}
+use Rattle.txg_core.specs.declared.event.EventParts.TheVariants as parts
+use Rattle.txg_core.specs.Events.{parts_of, step_word, transition_word}
 use Rattle.zp_calls.specs.declared.reply.Reply.{Reply}
 use Rattle.zp_calls.specs.declared.reply.Reply.TheVariants as reply
 
@@ -23,17 +25,13 @@ session_event word session = array (item (string word) (item (whole session) no_
 abbrev pub group_event : List ℕ → Data
 group_event word = array (item (string word) no_items)
 
+abbrev pub parts_data : EventParts → Data
+parts_data (parts.Step step session) = session_event (step_word step) session
+parts_data (parts.Transition transition) = group_event (transition_word transition)
+
 -- an event of the journal
 abbrev pub event_data : Event → Data
-event_data (event.Hold session) = session_event (codes "hold") session
-event_data (event.Check session) = session_event (codes "check") session
-event_data (event.Enqueue session) = session_event (codes "enqueue") session
-event_data (event.Read session) = session_event (codes "read") session
-event_data event.Quiesce = group_event (codes "quiesce")
-event_data event.Begin = group_event (codes "begin")
-event_data (event.Sync session) = session_event (codes "sync") session
-event_data event.End = group_event (codes "end")
-event_data (event.Take session) = session_event (codes "take") session
+event_data e = parts_data (parts_of e)
 
 -- an error number, with the first 256 details where there are any
 abbrev pub verdict_data : ℕ → List (List ℕ) → Data

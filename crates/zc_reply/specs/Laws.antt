@@ -1,19 +1,17 @@
 -- What the law of the output needs.
 use Rattle.std.specs.Prelude.{ℕ, ◌<◌, ◌^◌, Option, Some, None, IfSome}
 use Rattle.txg_core.specs.declared.event.Event.{Event}
-use Rattle.txg_core.specs.declared.event.Event.TheVariants as event
+use Rattle.txg_core.specs.declared.event.EventParts.{EventParts}
+use Rattle.txg_core.specs.declared.event.EventParts.TheVariants as parts
+use Rattle.txg_core.specs.Events.{parts_of}
+
+abbrev pub session_in : EventParts → Option ℕ
+session_in (parts.Step step session) = Some session
+session_in (parts.Transition transition) = None
 
 -- the session that an event names, if it names one
 abbrev pub named_session : Event → Option ℕ
-named_session (event.Hold session) = Some session
-named_session (event.Check session) = Some session
-named_session (event.Enqueue session) = Some session
-named_session (event.Read session) = Some session
-named_session event.Quiesce = None
-named_session event.Begin = None
-named_session (event.Sync session) = Some session
-named_session event.End = None
-named_session (event.Take session) = Some session
+named_session e = session_in (parts_of e)
 
 -- the session's number has 32 bits, as that of every event in the code has
 abbrev pub IsNumbered : Event → Type 0

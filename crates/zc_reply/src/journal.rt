@@ -7,7 +7,7 @@ ghost use Rattle.zc_reply.specs.Journal.{event_data, session_event, group_event}
 use crate::json::ToJson;
 use serde_json::{Value, json};
 use std::alloc::{AllocError, Global};
-use txg_core::Event;
+use txg_core::{Event, EventParts};
 
 fn session_event(alloc: Global, word: &str, session: u32) -> Result<Value, AllocError>
     ensures { IfOk result (λ v. view v ≡ session_event word.now session) }
@@ -27,16 +27,9 @@ impl ToJson for Event {
     ghost can_print = { λ _. Unit {0} };
 
     fn to_json(&self, alloc: Global) -> Result<Value, AllocError> {
-        match *self {
-            Event::Hold(session) => session_event(alloc, "hold", session),
-            Event::Check(session) => session_event(alloc, "check", session),
-            Event::Enqueue(session) => session_event(alloc, "enqueue", session),
-            Event::Read(session) => session_event(alloc, "read", session),
-            Event::Quiesce => group_event(alloc, "quiesce"),
-            Event::Begin => group_event(alloc, "begin"),
-            Event::Sync(session) => session_event(alloc, "sync", session),
-            Event::End => group_event(alloc, "end"),
-            Event::Take(session) => session_event(alloc, "take", session),
+        match self.parts() {
+            EventParts::Step(step, session) => session_event(alloc, step.word(), session),
+            EventParts::Transition(transition) => group_event(alloc, transition.word()),
         }
     }
 }

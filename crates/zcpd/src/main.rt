@@ -1,21 +1,11 @@
 //! `zcpd`: the administrative core of one pool.
 #![tactic(auto)]
 
-mod check;
-mod document;
-mod load_error;
-mod offline;
-mod pool;
-mod replay;
-mod status;
-mod words;
-
-pub use offline::offline;
-pub use status::Status;
 use std::alloc::Global;
 use std::process::ExitCode;
 use std::{env, io};
-use zc_io::{NoMemory, StdSink, StdSource};
+use zc_io::{StdSink, StdSource};
+use zc_offline::{Status, offline};
 
 #[cfg(test)]
 mod tests;

@@ -1,13 +1,10 @@
 //! Runs of the whole program, on documents that were worked out by hand.
 
-use super::*;
-use crate::document::DocError;
-use crate::load_error::load_error_text;
-use lua_lexer::LexError;
-use lua_parser::ParseError;
-use lua_scope::LoadError;
+use std::alloc::Global;
 use std::test::Fail;
+use zc_doc::DocError;
 use zc_io::{MemSink, MemSource, SureSink, SureSource};
+use zc_offline::{Status, offline};
 
 mod programs;
 
@@ -231,26 +228,6 @@ fn checks(rt: HostRuntime) -> Result<(), Fail> {
         let (status, written) = run(alloc, "check", document)?;
         assert_eq!(rt; status, wanted);
         assert!(rt; written.as_slice() == output.as_bytes(), "{document}");
-    }
-    Ok(())
-}
-
-#[test]
-fn tells_why_a_text_does_not_load(rt: HostRuntime) -> Result<(), Fail> {
-    let alloc = rt.alloc();
-    for (error, told) in [
-        (LoadError::TextTooLong(1_048_577), "TextTooLong at 1048577"),
-        (LoadError::Lex(LexError::OpenString(7)), "OpenString at 7"),
-        (LoadError::Parse(ParseError::TooDeep(200)), "TooDeep at 200"),
-        (LoadError::Parse(ParseError::EndOfText), "EndOfText at 10"),
-        (
-            LoadError::TwoLabels(4_294_967_295),
-            "TwoLabels at 4294967295",
-        ),
-    ] {
-        let text = load_error_text(alloc, 10, error)?;
-        let wanted = format!(in alloc; "the text does not load: {told}")?;
-        assert_eq!(rt; text.as_str(), wanted.as_str());
     }
     Ok(())
 }

@@ -1,9 +1,9 @@
 //! Checks of channel programs: texts that load, and the refusals that other tests leave out.
 
 use super::run;
-use crate::Status;
 use std::alloc::{AllocError, Global};
 use std::test::Fail;
+use zc_offline::Status;
 
 /// Every kind of statement and of expression (Lua 5.2 manual, section 9).
 const LOADING: &str = r#"{

@@ -1,0 +1,4 @@
+pub mod Reading
+pub mod Programs
+pub mod Document
+pub mod Refusals

@@ -1,6 +1,0 @@
-use Rattle.std.proofs.Common.{◌≡◌, length, map, take}
-use Rattle.zcpd.proofs.replay.counts_of.Given as goal
-
--- the sessions so far are counted
-abbrev pub invariant-loop-calls : goal.invariant-loop-calls
-invariant-loop-calls l = l.counts.items ≡ map length (take l.calls-index l.sessions)
