@@ -8,7 +8,7 @@ use Rattle.lua_scope.specs.declared.occurrence.Occurrence.TheVariants as occurre
 use Rattle.lua_scope.specs.declared.occurrence.ScopeKind.{ScopeKind}
 use Rattle.lua_scope.specs.declared.occurrence.ScopeKind.TheVariants as kind
 use Rattle.lua_scope.specs.declared.occurrence.Label.{Label as BlockLabel}
-use Rattle.lua_scope.specs.Labels.{labels_of, with_labels, locals_declared, locals_at, inside_of, inside_with, has_label, has_name}
+use Rattle.lua_scope.specs.Labels.{labels_of, with_labels, locals_left, locals_at, inside_of, inside_with, has_label, has_name}
 use Rattle.lua_scope.specs.Walk.{opens, label_in, walked, list_walked, stats_walked, body_walked, cases_walked, maybe_walked, fields_walked}
 
 pub ap-both : {A B C : Type 0} (f : A → B → C) {a x : A} {b y : B} → a ≡ x → b ≡ y → f a b ≡ f x y
@@ -123,14 +123,14 @@ same-inside-with inside labels (Paren i l inner) = refl
 same-inside-with inside labels (Table i l fields) = refl
 same-inside-with inside labels Missing = refl
 
-same-locals : (ts : Trees) → locals_declared (list_without ts) ≡ locals_declared ts
+same-locals : (ts : Trees) → locals_left (list_without ts) ≡ locals_left ts
 same-locals none = refl
 same-locals (snoc ts t) = ap-both (λ (a b : ℕ). a + b) (same-locals ts) (same-locals-at t)
 
 same-labels : (ts : Trees) → labels_of (list_without ts) ≡ labels_of ts
 unfolding labels_of
 same-labels none = refl
-same-labels (snoc ts t) = ap-both (λ (ls : List BlockLabel) (n : ℕ). with_labels ls n (without_numbers t)) (same-labels ts) (same-locals ts) ∙ same-with-labels (labels_of ts) (locals_declared ts) t
+same-labels (snoc ts t) = ap-both (λ (ls : List BlockLabel) (n : ℕ). with_labels ls n (without_numbers t)) (same-labels ts) (same-locals ts) ∙ same-with-labels (labels_of ts) (locals_left ts) t
 
 same-inside : (ts : Trees) → inside_of (list_without ts) ≡ inside_of ts
 unfolding inside_of

@@ -12,7 +12,7 @@ use Rattle.lua_scope.specs.declared.occurrence.Label.{Label as BlockLabel}
 use Rattle.lua_scope.specs.declared.task.Task.{Task}
 use Rattle.lua_scope.specs.declared.task.Task.TheVariants.{Visit, Emit}
 use Rattle.lua_scope.specs.declared.block.Statements.{Statements}
-use Rattle.lua_scope.specs.Labels.{has_name, labels_of, with_labels, inside_of, inside_with, locals_declared, locals_at}
+use Rattle.lua_scope.specs.Labels.{has_name, labels_of, with_labels, inside_of, inside_with, locals_left, locals_at}
 use Rattle.lua_scope.specs.Walk.{walked, stats_walked}
 use Rattle.lua_scope.specs.Tasks.{walks}
 use Rattle.lua_scope.specs.Walking.{size, list_size, weights, TasksBelow}
@@ -75,9 +75,9 @@ unfolding labels_of inside_of size
 scanned_other part n ts old new i l x plain less e s a b c d =
     let o : Other part i l x = other part i l x plain
     in record {
-      labels = a ∙ (s.labels ∙ (sym (o.labels (labels_of ts) (locals_declared ts)) ∙ ap (with_labels (labels_of ts) (locals_declared ts)) (sym e)));
+      labels = a ∙ (s.labels ∙ (sym (o.labels (labels_of ts) (locals_left ts)) ∙ ap (with_labels (labels_of ts) (locals_left ts)) (sym e)));
       inside = b ∙ (ap (λ (ls : List BlockLabel). length ls) s.labels ∙ (sym (o.inside (inside_of ts) (length (labels_of ts))) ∙ ap (inside_with (inside_of ts) (length (labels_of ts))) (sym e)));
-      locals = c ∙ (ap (λ m. m + locals_in x) s.locals ∙ (ap (λ m. locals_declared ts + m) (sym o.locals) ∙ ap (λ t. locals_declared ts + locals_at t) (sym e)));
+      locals = c ∙ (ap (λ m. m + locals_in x) s.locals ∙ (ap (λ m. locals_left ts + m) (sym o.locals) ∙ ap (λ t. locals_left ts + locals_at t) (sym e)));
       walk = λ h.
           ap (walks part h) d ∙ (walks_append part h old.tasks (Visit i ∷ []) ∙ (ap (λ g. walked g (part i)) (s.walk h)
           ∙ (ap (walked (stats_walked h ts)) e ∙ (sym (o.walk h ts) ∙ ap (λ t. stats_walked h (snoc ts t)) (sym e)))));

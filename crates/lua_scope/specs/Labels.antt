@@ -10,9 +10,9 @@ locals_at (Local _ _ names _) = length names
 locals_at (LocalFunction _ _ _ _) = 1
 locals_at _ = 0
 
-abbrev pub locals_declared : Trees → ℕ
-locals_declared none = 0
-locals_declared (snoc ts t) = locals_declared ts + locals_at t
+abbrev pub locals_left : Trees → ℕ
+locals_left none = 0
+locals_left (snoc ts t) = locals_left ts + locals_at t
 
 abbrev pub has_name : List ℕ → BlockLabel → Bool
 has_name x l = bytes_eq l.name x
@@ -24,7 +24,7 @@ with_labels before locals _ = before
 
 unfoldable pub labels_of : Trees → List BlockLabel
 labels_of none = []
-labels_of (snoc ts t) = with_labels (labels_of ts) (locals_declared ts) t
+labels_of (snoc ts t) = with_labels (labels_of ts) (locals_left ts) t
 
 -- A label is a void statement, as `;` is, which is no node. How many labels have other statements behind them.
 abbrev pub inside_with : ℕ → ℕ → Tree → ℕ

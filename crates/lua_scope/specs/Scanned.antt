@@ -5,7 +5,7 @@ use Rattle.lua_ast.specs.declared.node.Node.TheVariants as node
 use Rattle.lua_ast.specs.Tree.{Tree, Block, Trees, none}
 use Rattle.lua_scope.specs.declared.occurrence.Occurrence.{Occurrence}
 use Rattle.lua_scope.specs.declared.block.Statements.{Statements}
-use Rattle.lua_scope.specs.Labels.{labels_of, inside_of, locals_declared}
+use Rattle.lua_scope.specs.Labels.{labels_of, inside_of, locals_left}
 use Rattle.lua_scope.specs.Walk.{stats_walked}
 use Rattle.lua_scope.specs.Tasks.{walks}
 use Rattle.lua_scope.specs.Walking.{weights, list_size, TasksBelow}
@@ -15,7 +15,7 @@ use Rattle.std.specs.Prelude.{length, Option, Some, None}
 pub record Scanned (part : ℕ → Tree) (n : ℕ) (ts : Trees) (s : Statements) : Type 0 where
   pub labels : s.labels ≡ labels_of ts
   pub inside : s.inside ≡ inside_of ts
-  pub locals : s.locals ≡ locals_declared ts
+  pub locals : s.locals ≡ locals_left ts
   pub walk : (seen : List Occurrence) → walks part seen s.tasks ≡ stats_walked seen ts
   pub less : weights part s.tasks ≤ list_size ts
   pub below : TasksBelow n s.tasks
