@@ -1,5 +1,5 @@
 -- Making a clone keeps a tree well formed.
-use Rattle.std.proofs.Common.{◌≡◌, ℕ, ◌+◌, ◌≤◌, List, [], ◌∷◌, ◌++◌, length, true, false, ◌&&◌, Option, Some, None, IsSome, is_some, refl, sym, ap, subst, ◌∙◌, arith, sum_by, length-append, option_and_then}
+use Rattle.std.proofs.Common.{◌≡◌, ℕ, ◌+◌, ◌≤◌, List, [], ◌∷◌, ◌++◌, length, true, ◌&&◌, Option, Some, None, IsSome, is_some, refl, sym, ap, subst, arith, sum_by, length-append, option_and_then}
 use Rattle.std.specs.Option.{option_map_or}
 use Rattle.std.proofs.lemmas.Bool.{and_parts}
 use Rattle.std.proofs.lemmas.List.Sums.{sum_by-append}
@@ -8,10 +8,9 @@ use Rattle.zp_names.specs.NameParts.{is_snapshot_name}
 use Rattle.zp_tree.specs.declared.item.Item.TheVariants as item
 use Rattle.zp_tree.specs.declared.item.Head.{Head}
 use Rattle.zp_tree.specs.declared.item.Snapshot.{Snapshot}
-use Rattle.zp_tree.specs.Tree.{Tree, at, as_head, as_snapshot, parent_in, head_at, snapshot_named, added}
-use Rattle.zp_tree.specs.WellFormed.{head_in, snapshot_in, user_settings, IsHead, Agrees, IsWellFormed}
+use Rattle.zp_tree.specs.Tree.{Tree, at, as_snapshot, parent_in, head_at, snapshot_named, added}
+use Rattle.zp_tree.specs.WellFormed.{snapshot_in, user_settings, IsHead, Agrees, IsWellFormed}
 use Rattle.zp_tree.specs.Rows.{passed}
-use Rattle.zp_tree.specs.Items.{is_volume}
 use Rattle.zp_tree.specs.MakeClone.{clone_check, clone_rows, clone_change, new_clone, with_clone}
 use Rattle.zp_tree.proofs.Rising.{rises-added, id-below}
 use Rattle.zp_tree.proofs.Edits.{at-new, look-added}

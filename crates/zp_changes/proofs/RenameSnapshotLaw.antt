@@ -1,12 +1,12 @@
 -- Renaming a snapshot keeps a tree well formed.
-use Rattle.std.proofs.Common.{◌≡◌, ℕ, List, ◌∷◌, ◌++◌, Bool, true, false, ◌&&◌, Option, Some, None, refl, sym, ap, ◌∙◌, option_and_then}
+use Rattle.std.proofs.Common.{◌≡◌, ℕ, List, ◌&&◌, Option, Some, None, refl, ap, option_and_then}
 use Rattle.std.specs.Option.{option_map_or}
 use Rattle.std.proofs.lemmas.Bool.{and_parts}
 use Rattle.zp_names.specs.Names.{is_head, is_valid_name, is_valid_short}
 use Rattle.zp_names.specs.NameParts.{snapshot_name}
 use Rattle.zp_tree.specs.declared.item.Item.TheVariants as item
 use Rattle.zp_tree.specs.declared.item.Snapshot.{Snapshot}
-use Rattle.zp_tree.specs.Tree.{Tree, at, as_snapshot, full_name, is_called, snapshot_named, replaced}
+use Rattle.zp_tree.specs.Tree.{Tree, as_snapshot, full_name, snapshot_named, replaced}
 use Rattle.zp_tree.specs.WellFormed.{IsWellFormed}
 use Rattle.zp_tree.specs.Rows.{passed}
 use Rattle.zp_tree.specs.RenameSnapshot.{is_short_in, rename_snapshot_rows, rename_snapshot_check, rename_snapshot_change}

@@ -1,5 +1,5 @@
 -- A well-formed tree in which one record is replaced.
-use Rattle.std.proofs.Common.{◌≡◌, ℕ, ◌≤◌, List, [], length, true, Some, IsSome, is_some, sym, ap, subst, ◌∙◌, ◌⊎◌, sum_by, arith, refl}
+use Rattle.std.proofs.Common.{◌≡◌, ℕ, [], length, true, Some, is_some, sym, ap, subst, ◌⊎◌, sum_by, arith}
 use Rattle.zp_tree.specs.declared.item.Item.{Item}
 use Rattle.zp_tree.specs.declared.item.Item.TheVariants as item
 use Rattle.zp_tree.specs.declared.item.Head.{Head}

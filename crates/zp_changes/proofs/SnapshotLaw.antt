@@ -1,5 +1,5 @@
 -- Taking a snapshot keeps a tree well formed.
-use Rattle.std.proofs.Common.{◌≡◌, ℕ, ◌+◌, ◌≤◌, List, [], ◌∷◌, ◌++◌, length, Bool, true, false, not, ◌||◌, Option, Some, None, is_none, is_some, find, refl, sym, ap, subst, ◌∙◌, arith, sum_by, length-append, bytes_eq, map, All}
+use Rattle.std.proofs.Common.{◌≡◌, ℕ, ◌+◌, ◌≤◌, List, [], ◌∷◌, ◌++◌, length, true, false, ◌||◌, Option, Some, None, is_none, is_some, find, refl, sym, ap, subst, ◌∙◌, arith, sum_by, length-append, bytes_eq, map, All}
 use Rattle.std.specs.List.{IsDistinct}
 use Rattle.std.specs.Option.{option_map_or}
 use Rattle.std.proofs.lemmas.List.Sums.{sum_by-append}

@@ -1,5 +1,5 @@
 -- A well-formed tree with one record more.
-use Rattle.std.proofs.Common.{◌≡◌, ℕ, ◌≤◌, List, false, true, cond, Option, Some, None, IsSome, sym, ap, subst, ◌∙◌, inl, inr, ◌⊎◌, option_and_then}
+use Rattle.std.proofs.Common.{◌≡◌, ℕ, ◌≤◌, List, false, cond, Option, Some, None, IsSome, sym, ap, subst, ◌∙◌, inl, inr, ◌⊎◌, option_and_then}
 use Rattle.std.proofs.lemmas.Bool.{cases_eq, eq-eqb}
 use Rattle.zp_tree.specs.declared.item.Item.{Item}
 use Rattle.zp_tree.specs.declared.item.Item.TheVariants as item

@@ -1,5 +1,5 @@
 -- A well-formed tree in which one record changes.
-use Rattle.std.proofs.Common.{◌≡◌, ℕ, ◌≤◌, List, [], true, false, cond, Option, Some, None, IsSome, is_some, refl, sym, ap, subst, ◌∙◌, inl, inr, ◌⊎◌, option_and_then}
+use Rattle.std.proofs.Common.{◌≡◌, ℕ, List, [], true, cond, Option, Some, IsSome, is_some, refl, sym, ap, subst, ◌∙◌, inl, inr, ◌⊎◌, option_and_then}
 use Rattle.std.proofs.lemmas.Bool.{cases_eq, eq-eqb}
 use Rattle.zp_names.specs.NameParts.{is_pool}
 use Rattle.zp_tree.specs.declared.item.Item.{Item}
@@ -7,7 +7,7 @@ use Rattle.zp_tree.specs.declared.item.Item.TheVariants as item
 use Rattle.zp_tree.specs.declared.item.Head.{Head}
 use Rattle.zp_tree.specs.declared.item.Snapshot.{Snapshot}
 use Rattle.zp_tree.specs.Tree.{as_head, as_snapshot, as_bookmark}
-use Rattle.zp_tree.specs.WellFormed.{Look, head_in, snapshot_in, bookmark_in, IsHead, IsSnapshot, IsRecord, HasPool, HasFilesystem, HasParent, HasClone, Agrees}
+use Rattle.zp_tree.specs.WellFormed.{Look, head_in, snapshot_in, bookmark_in, IsHead, IsSnapshot, IsRecord, HasFilesystem, HasParent, HasClone, Agrees}
 use Rattle.zp_tree.proofs.Edits.{edit, edit-here, edit-other, edit-cases, edit-keeps}
 use Rattle.zp_tree.proofs.Adding.{whole-cases}
 

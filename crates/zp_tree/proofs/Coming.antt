@@ -1,5 +1,5 @@
 -- The record that comes first by name, record by record.
-use Rattle.std.proofs.Common.{◌≡◌, ℕ, zero, suc, List, [], ◌∷◌, ◌++◌, Bool, true, false, cond, Option, Some, None, refl, sym, ap, subst, ◌∙◌, inl, inr, ◌⊎◌, MatchOption, Ordering, Less, Equal, Greater, nat_cmp, option_map}
+use Rattle.std.proofs.Common.{◌≡◌, ℕ, zero, suc, List, [], ◌∷◌, ◌++◌, Bool, true, false, cond, Option, Some, None, refl, sym, ap, subst, ◌∙◌, inl, inr, ◌⊎◌, Ordering, Less, Equal, Greater, nat_cmp, option_map}
 use Rattle.std.specs.Prelude.{slice_get}
 use Rattle.std.specs.Ordering.{is_gt, ordering_reverse}
 use Rattle.std.specs.Cmp.Lexicographic.{slice_cmp}
@@ -7,7 +7,7 @@ use Rattle.std.proofs.lemmas.Bool.{cases_Bool}
 use Rattle.std.proofs.lemmas.Cmp.{nat_list_cmp_total, tied_itself, upto}
 use Rattle.zp_tree.specs.declared.item.Item.{Item}
 use Rattle.zp_tree.specs.Tree.{id_of}
-use Rattle.zp_tree.specs.NextByName.{is_above, key_of, NoneComes, ComesFirst, Comes, HasFirst, IsNext, better, lesser}
+use Rattle.zp_tree.specs.NextByName.{is_above, key_of, Comes, IsNext, better, lesser}
 
 snoc-cases : (rs : List Item) (r x : Item) (k : ℕ) → slice_get (rs ++ r ∷ []) k ≡ Some x → (slice_get rs k ≡ Some x) ⊎ (r ≡ x)
 snoc-cases [] r x zero e = inr (let is : Some r ≡ Some x = e in cc)

@@ -1,5 +1,5 @@
 -- What stands under a name, in a well-formed tree.
-use Rattle.std.proofs.Common.{◌≡◌, ℕ, ◌<◌, List, ◌∷◌, ◌++◌, bytes_eq, option_map, length, Bool, true, false, Option, Some, None, is_some, refl, sym, ap, ◌∙◌, arith, option_and_then}
+use Rattle.std.proofs.Common.{◌≡◌, ℕ, ◌<◌, List, ◌∷◌, ◌++◌, bytes_eq, option_map, length, true, false, Option, Some, None, is_some, refl, sym, ap, ◌∙◌, arith, option_and_then}
 use Rattle.std.specs.Option.{option_map_or}
 use Rattle.std.proofs.lemmas.Bool.{true≢false}
 use Rattle.std.proofs.lemmas.Slice.Eq.{bytes_eq-Decides}
@@ -10,7 +10,7 @@ use Rattle.zp_tree.specs.declared.item.Head.{Head}
 use Rattle.zp_tree.specs.declared.item.Snapshot.{Snapshot}
 use Rattle.zp_tree.specs.declared.item.HeadKind.{HeadKind}
 use Rattle.zp_tree.specs.declared.item.HeadKind.TheVariants.{Filesystem, Volume}
-use Rattle.zp_tree.specs.Tree.{Tree, at, id_of, has_id, as_head, as_snapshot, named, head_name, is_text, full_name, is_called, exists, head_named, snapshot_named, parent_in, is_full}
+use Rattle.zp_tree.specs.Tree.{Tree, at, has_id, as_head, as_snapshot, named, head_name, is_text, is_called, exists, head_named, snapshot_named, parent_in, is_full}
 use Rattle.zp_tree.specs.Items.{is_volume, is_volume_kind}
 use Rattle.zp_tree.specs.WellFormed.{head_in, snapshot_in, HasParent, IsWellFormed}
 use Rattle.zp_tree.proofs.Looks.{found-at, find-passes, find-some}

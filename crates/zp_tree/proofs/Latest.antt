@@ -3,7 +3,6 @@ use Rattle.std.proofs.Common.{◌≡◌, ℕ, ◌+◌, ◌<◌, List, [], ◌∷
 use Rattle.std.specs.Option.{option_or}
 use Rattle.std.proofs.Math.Seq.{take-suc}
 use Rattle.zp_tree.specs.declared.item.Item.{Item}
-use Rattle.zp_tree.specs.declared.item.Snapshot.{Snapshot}
 use Rattle.zp_tree.specs.Rollback.{own_snapshot, latest}
 
 none-last : {A : Type 0} (o : Option A) → option_or None o ≡ option_or o None

@@ -1,5 +1,5 @@
 -- Sums over the records.
-use Rattle.std.proofs.Common.{◌≡◌, ℕ, ◌+◌, List, [], ◌∷◌, cond, true, false, Option, Some, None, refl, sym, ap, ◌∙◌, sum_by, inl, inr}
+use Rattle.std.proofs.Common.{◌≡◌, ℕ, ◌+◌, List, [], ◌∷◌, cond, Some, sym, ap, ◌∙◌, sum_by, inl, inr}
 use Rattle.std.proofs.lemmas.Bool.{cases_eq, eq-eqb, ne_eqb}
 use Rattle.std.proofs.lemmas.List.Sums.{sum_by-cons}
 use Rattle.zp_tree.specs.declared.item.Item.{Item}

@@ -5,7 +5,6 @@ use Rattle.zp_names.specs.Names.{is_head}
 use Rattle.zp_names.specs.ErrorNumbers.{einval, enoent}
 use Rattle.zp_names.specs.declared.verdict.Verdict.{Verdict}
 use Rattle.zp_tree.specs.declared.item.Item.TheVariants as item
-use Rattle.zp_tree.specs.declared.item.Head.{Head}
 use Rattle.zp_tree.specs.Tree.{Tree, head_named, replaced}
 use Rattle.zp_tree.specs.Items.{is_mounted}
 use Rattle.zp_tree.specs.Rows.{refuse, first_row}

@@ -1,4 +1,4 @@
-use Rattle.std.proofs.Common.{◌≡◌, ◌∙◌}
+use Rattle.std.proofs.Common.{◌∙◌}
 use Rattle.zp_tree.proofs.Looks.{finds-some}
 use Rattle.zp_tree.proofs.lookup.exists.Goals as goal
 

@@ -1,4 +1,4 @@
-use Rattle.std.proofs.Common.{◌≡◌, ℕ, Option, Some, ◌∙◌, sym, subst}
+use Rattle.std.proofs.Common.{ℕ, Option, ◌∙◌, subst}
 use Rattle.zp_tree.specs.Tree.{Finds}
 use Rattle.zp_tree.proofs.FullNames.{finds-named}
 use Rattle.zp_tree.proofs.Looks.{lent-there}

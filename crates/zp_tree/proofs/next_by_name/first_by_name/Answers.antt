@@ -1,4 +1,4 @@
-use Rattle.std.proofs.Common.{◌≡◌, ◌+◌, ◌∷◌, ◌++◌, [], take, List, Option, Bool, sym, ap, ◌∙◌, subst, option_map}
+use Rattle.std.proofs.Common.{◌+◌, take, List, Option, Bool, sym, ap, ◌∙◌, subst, option_map}
 use Rattle.zp_tree.specs.declared.item.Item.{Item}
 use Rattle.zp_tree.specs.NextByName.{Comes, better}
 use Rattle.zp_tree.proofs.Coming.{comes-more}

@@ -1,4 +1,4 @@
-use Rattle.std.proofs.Common.{◌≡◌, sym, ap, ◌∙◌, List, ◌∷◌, bytes_eq}
+use Rattle.std.proofs.Common.{◌∙◌, ◌∷◌}
 use Rattle.zp_tree.proofs.Places.{none-joined, some-joined}
 use Rattle.zp_tree.proofs.plain.is_joined.Goals as goal
 

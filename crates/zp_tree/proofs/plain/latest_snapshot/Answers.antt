@@ -1,4 +1,4 @@
-use Rattle.std.proofs.Common.{◌≡◌, ◌+◌, take, List, sym, ap, ◌∙◌, option_map}
+use Rattle.std.proofs.Common.{take, sym, ap, ◌∙◌}
 use Rattle.std.specs.Option.{option_or}
 use Rattle.zp_tree.specs.Rollback.{own_snapshot, latest}
 use Rattle.zp_tree.proofs.Latest.{latest-more, one-more}

@@ -1,4 +1,4 @@
-use Rattle.std.proofs.Common.{◌≡◌, sym, ap, ◌∙◌}
+use Rattle.std.proofs.Common.{sym, ap, ◌∙◌}
 use Rattle.std.specs.List.{remove, position}
 use Rattle.zp_tree.specs.Tree.{has_id}
 use Rattle.zp_tree.proofs.Places.{without-remove, some-place, no-place}

@@ -1,6 +1,6 @@
-use Rattle.std.proofs.Common.{◌≡◌, sym, ap, ◌∙◌, slice_set}
+use Rattle.std.proofs.Common.{sym, ap, ◌∙◌, slice_set}
 use Rattle.std.specs.List.{position, position_or_len}
-use Rattle.zp_tree.specs.Tree.{has_id, put}
+use Rattle.zp_tree.specs.Tree.{has_id}
 use Rattle.zp_tree.proofs.Places.{put-set, some-place, no-place}
 use Rattle.zp_tree.proofs.plain.replace_record.Goals as goal
 

@@ -1,5 +1,5 @@
-use Rattle.std.proofs.Common.{◌≡◌, List, ap, ◌∙◌, sym, subst, ◌+◌}
-use Rattle.zp_tree.specs.Tree.{Tree, Rises}
+use Rattle.std.proofs.Common.{List, ap, ◌∙◌, sym, subst, ◌+◌}
+use Rattle.zp_tree.specs.Tree.{Rises}
 use Rattle.zp_tree.specs.Kept.{Kept}
 use Rattle.zp_tree.specs.declared.item.Item.{Item}
 use Rattle.zp_tree.proofs.Rising.{rises-added}

@@ -1,4 +1,4 @@
-use Rattle.std.proofs.Common.{◌≡◌, ℕ, Some, List, ap, ◌∙◌, sym, subst}
+use Rattle.std.proofs.Common.{ℕ, Some, List, ap, ◌∙◌, sym, subst}
 use Rattle.zp_tree.specs.Tree.{Finds, Rises, named}
 use Rattle.zp_tree.specs.Kept.{Kept}
 use Rattle.zp_tree.specs.declared.item.Item.{Item}

@@ -1,4 +1,4 @@
-use Rattle.std.proofs.Common.{◌≡◌, List, sym, subst}
+use Rattle.std.proofs.Common.{List, sym, subst}
 use Rattle.zp_tree.specs.Tree.{Rises}
 use Rattle.zp_tree.specs.declared.item.Item.{Item}
 use Rattle.zp_tree.proofs.Rising.{rises-without}
