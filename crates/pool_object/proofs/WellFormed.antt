@@ -16,6 +16,7 @@ use Rattle.zp_tree.specs.MakeClone.{clone_rows}
 use Rattle.zp_tree.specs.Mount.{mount_rows}
 use Rattle.zp_tree.specs.Unmount.{unmount_rows}
 use Rattle.zp_tree.specs.WriteStamp.{stamp_rows}
+use Rattle.zp_tree.specs.Rollback.{rollback_rows}
 use Rattle.zp_tree.specs.RenameSnapshot.{rename_snapshot_rows}
 use Rattle.zp_tree.proofs.Clear.{refusing}
 use Rattle.zp_tree.proofs.VerdictTexts.{details-utf8}
@@ -25,6 +26,7 @@ use Rattle.zp_changes.proofs.CloneLaw.{clone-well}
 use Rattle.zp_changes.proofs.MountLaw.{mount-well}
 use Rattle.zp_changes.proofs.UnmountLaw.{unmount-well}
 use Rattle.zp_changes.proofs.StampLaw.{stamp-well}
+use Rattle.zp_changes.proofs.RollbackLaw.{rollback-well}
 use Rattle.zp_changes.proofs.RenameSnapshotLaw.{rename-snapshot-well}
 use Rattle.zp_names.specs.Names.{is_valid_name, is_head, is_valid_short, short_of, begins_with_letter, is_joined, parts_of, is_part}
 use Rattle.zp_calls.specs.declared.call.Call.{Call}
@@ -52,6 +54,7 @@ passes t (command.Clone source name) zero = rows-pass (clone_rows t source name)
 passes t (command.Mount name) zero = rows-pass (mount_rows t name) refl zero
 passes t (command.Unmount name) zero = rows-pass (unmount_rows t name) refl zero
 passes t (command.Stamp name value) zero = rows-pass (stamp_rows t name) refl zero
+passes t (command.Rollback name) zero = rows-pass (rollback_rows t name) refl zero
 passes t (command.RenameSnapshot name old new) zero = rows-pass (rename_snapshot_rows t name old new) refl zero
 
 -- a valid name is a head's or has a valid short name
@@ -71,6 +74,7 @@ change-well now t (command.Clone source name) group w valid passes = clone-well 
 change-well now t (command.Mount name) group w valid passes = mount-well t name w
 change-well now t (command.Unmount name) group w valid passes = unmount-well t name w
 change-well now t (command.Stamp name value) group w valid passes = stamp-well t name value w
+change-well now t (command.Rollback name) group w valid passes = rollback-well t name w
 change-well now t (command.RenameSnapshot name old new) group w valid passes = rename-snapshot-well t name old new w passes
 
 pub does-well : (now : ℕ) (t : Tree) (c : Call) (group : ℕ) → IsWellFormed t → HasValidNames c → IsWellFormed (does now t c group).1

@@ -16,6 +16,7 @@ names_of_command (command.Clone source name) = source ∷ name ∷ []
 names_of_command (command.Mount name) = name ∷ []
 names_of_command (command.Unmount name) = name ∷ []
 names_of_command (command.Stamp name value) = name ∷ []
+names_of_command (command.Rollback name) = name ∷ []
 names_of_command (command.RenameSnapshot name old new) = name ∷ []
 
 abbrev pub names_of_query : Query → List (List ℕ)
