@@ -1,11 +1,12 @@
 -- What the form of a document says of it.
-use Rattle.std.proofs.Common.{◌≡◌, ℕ, ◌≤◌, ◌^◌, List, [], ◌∷◌, length, Option, Some, None, Bool, true, false, cond, All, codes, bytes_eq, refl, sym, ap, subst, ◌∙◌, arith, suc, zero, nat_le, Result, Ok, Err, IfOk}
+use Rattle.std.proofs.Common.{◌≡◌, ℕ, ◌≤◌, ◌^◌, List, [], ◌∷◌, length, Option, Some, None, Bool, true, false, cond, All, codes, bytes_eq, refl, sym, ap, subst, ◌∙◌, arith, suc, zero, nat_le, option_map, Result, Ok, Err, IfOk}
 use Rattle.serde_json.specs.Data.{Data, Items, no_items, item}
 use Rattle.serde_json.specs.Find.{get, as_array, as_str}
 use Rattle.serde_json.specs.Events.{items_len}
 use Rattle.zp_names.specs.Names.{is_valid_name}
 use Rattle.zp_names.specs.NameParts.{is_pool, pool_of}
-use Rattle.zp_names.specs.declared.command.Command.TheVariants.{Create}
+use Rattle.zp_names.specs.declared.command.Command.{Command}
+use Rattle.zp_names.specs.declared.command.Command.TheVariants.{Create, Snapshot, Clone, Mount, Unmount, Rollback, Stamp, RenameSnapshot}
 use Rattle.zp_names.specs.declared.command.Query.TheVariants.{Exists}
 use Rattle.zp_tree.specs.NewPool.{new_pool}
 use Rattle.zp_calls.specs.declared.call.Call.{Call}
@@ -15,7 +16,8 @@ use Rattle.zc_doc.specs.declared.document.Document.{Document}
 use Rattle.zc_doc.specs.declared.document.Need.{Need}
 use Rattle.zc_doc.specs.declared.error.DocError.{DocError}
 use Rattle.zc_doc.specs.Reading.{◌>>=◌, where_passes, items, array_within, member, only_if, number_below, has_width}
-use Rattle.zc_doc.specs.Document.{Contents, contents_of, GivesContents, any_name_at, pool_at, name_at, call_of, call_members, call_at, schedule_in, most_calls, most_sessions, most_bytes, document_members, document_at, document_of, data_of, has_form}
+use Rattle.zc_doc.specs.Document.{Contents, contents_of, GivesContents, schedule_in, most_calls, most_sessions, most_bytes, document_members, document_at, document_of, data_of, has_form}
+use Rattle.zc_doc.specs.Calls.{any_name_at, pool_at, name_at, only_name, clone_in, stamp_in, rename_snapshot_in, command_of, call_of, call_at}
 use Rattle.zc_doc.specs.Programs.{programs_at}
 use Rattle.zc_doc.proofs.Values.{within-array}
 
@@ -95,24 +97,70 @@ valid-name pool d name e =
     let is : text.value ≡ name = same (λ n. bytes_eq (pool_of n) pool) text.value name text.gives in
     subst (λ (n : List ℕ). is_valid_name n ≡ true) is (passes is_valid_name read.value text.value read.gives)
 
-named-call : (op name : List ℕ) (c : Call) → is_valid_name name ≡ true → call_of op name ≡ Some c → HasValidNames c
-named-call op name c valid e = create (bytes_eq op (codes "create")) e
-  where
-    exists : (b : Bool) → cond b (Some (call.Query (Exists name))) None ≡ Some c → HasValidNames c
-    exists true f = let is : call.Query (Exists name) ≡ c = cc in subst HasValidNames is (valid, tt)
-    exists false f = cc
+-- what is so of either choice
+chosen : {A : Type 0} (P : A → Type 0) (b : Bool) (x y : Option A) → ((a : A) → x ≡ Some a → P a) → ((a : A) → y ≡ Some a → P a) → (a : A) → cond b x y ≡ Some a → P a
+chosen P true x y p q a e = p a e
+chosen P false x y p q a e = q a e
 
-    create : (b : Bool) → cond b (Some (call.Command (Create name))) (cond (bytes_eq op (codes "exists")) (Some (call.Query (Exists name))) None) ≡ Some c → HasValidNames c
-    create true f = let is : call.Command (Create name) ≡ c = cc in subst HasValidNames is (valid, tt)
-    create false f = exists (bytes_eq op (codes "exists")) f
+mapped : {A B : Type 0} (P : B → Type 0) (f : A → B) (o : Option A) → ((x : A) → o ≡ Some x → P (f x)) → (y : B) → option_map f o ≡ Some y → P y
+mapped P f None each y e = cc
+mapped P f (Some x) each y e = let is : f x ≡ y = cc in subst P is (each x refl)
+
+-- the names of a command are valid
+abbrev CommandHasValidNames : Command → Type 0
+CommandHasValidNames c = HasValidNames (call.Command c)
+
+valid-member : (pool key : List ℕ) (d : Data) (name : List ℕ) → member (name_at pool) key d ≡ Some name → is_valid_name name ≡ true
+valid-member pool key d name e = let at = bound (get key d) (name_at pool) name e in valid-name pool at.value name at.gives
+
+valid-only : (pool : List ℕ) (d : Data) (name : List ℕ) → only_name pool d ≡ Some name → is_valid_name name ≡ true
+unfolding only_name
+valid-only pool d name e = valid-member pool (codes "name") d name (only (has_width 2 d) (member (name_at pool) (codes "name") d) name e)
+
+clone-names : (pool : List ℕ) (d : Data) (c : Command) → only_if (has_width 3 d) (clone_in pool d) ≡ Some c → CommandHasValidNames c
+unfolding clone_in
+clone-names pool d c e =
+    let source = bound (member (name_at pool) (codes "source") d) _ c (only (has_width 3 d) (clone_in pool d) c e) in
+    let name = bound (member (name_at pool) (codes "name") d) _ c source.gives in
+    mapped CommandHasValidNames (λ (n : List ℕ). Clone source.value n) (Some name.value)
+    (λ n is. let same : name.value ≡ n = cc in (valid-member pool (codes "source") d source.value source.is, (subst (λ (t : List ℕ). is_valid_name t ≡ true) same (valid-member pool (codes "name") d name.value name.is), tt))) c name.gives
+
+stamp-names : (pool : List ℕ) (d : Data) (c : Command) → only_if (has_width 3 d) (stamp_in pool d) ≡ Some c → CommandHasValidNames c
+unfolding stamp_in
+stamp-names pool d c e =
+    let name = bound (member (name_at pool) (codes "name") d) _ c (only (has_width 3 d) (stamp_in pool d) c e) in
+    let value = bound (member (number_below (2 ^ 63)) (codes "value") d) _ c name.gives in
+    mapped CommandHasValidNames (λ (n : ℕ). Stamp name.value n) (Some value.value) (λ n is. (valid-member pool (codes "name") d name.value name.is, tt)) c value.gives
+
+rename-names : (pool : List ℕ) (d : Data) (c : Command) → only_if (has_width 4 d) (rename_snapshot_in pool d) ≡ Some c → CommandHasValidNames c
+unfolding rename_snapshot_in
+rename-names pool d c e =
+    let name = bound (member (name_at pool) (codes "name") d) _ c (only (has_width 4 d) (rename_snapshot_in pool d) c e) in
+    let old = bound (member as_str (codes "old") d) _ c name.gives in
+    let new = bound (member as_str (codes "new") d) _ c old.gives in
+    mapped CommandHasValidNames (λ (t : List ℕ). RenameSnapshot name.value old.value t) (Some new.value) (λ t is. (valid-member pool (codes "name") d name.value name.is, tt)) c new.gives
+
+command-names : (op pool : List ℕ) (d : Data) (c : Command) → command_of op pool d ≡ Some c → CommandHasValidNames c
+unfolding command_of
+command-names op pool d =
+    let one : (make : List ℕ → Command) → ((n : List ℕ) → is_valid_name n ≡ true → CommandHasValidNames (make n)) → (c : Command) → option_map make (only_name pool d) ≡ Some c → CommandHasValidNames c
+    = λ make each c e. mapped CommandHasValidNames make (only_name pool d) (λ n is. each n (valid-only pool d n is)) c e in
+    let P = CommandHasValidNames in
+    chosen P (bytes_eq op (codes "create")) _ _ (one (λ n. Create n) (λ n v. (v, tt)))
+    (chosen P (bytes_eq op (codes "snapshot")) _ _ (one (λ n. Snapshot n) (λ n v. (v, tt)))
+    (chosen P (bytes_eq op (codes "clone")) _ _ (clone-names pool d)
+    (chosen P (bytes_eq op (codes "mount")) _ _ (one (λ n. Mount n) (λ n v. (v, tt)))
+    (chosen P (bytes_eq op (codes "unmount")) _ _ (one (λ n. Unmount n) (λ n v. (v, tt)))
+    (chosen P (bytes_eq op (codes "rollback")) _ _ (one (λ n. Rollback n) (λ n v. (v, tt)))
+    (chosen P (bytes_eq op (codes "stamp")) _ _ (stamp-names pool d)
+    (chosen P (bytes_eq op (codes "rename_snapshot")) _ _ (rename-names pool d) (λ c e. cc))))))))
 
 call-names : (pool : List ℕ) (d : Data) (c : Call) → call_at pool d ≡ Some c → HasValidNames c
-unfolding call_members
 call-names pool d c e =
-    let op = bound (member as_str (codes "op") d) _ c (only (has_width 2 d) (call_members pool d) c e) in
-    let name = bound (member (name_at pool) (codes "name") d) _ c op.gives in
-    let at = bound (get (codes "name") d) (name_at pool) name.value name.is in
-    named-call op.value name.value c (valid-name pool at.value name.value at.gives) name.gives
+    let op = bound (member as_str (codes "op") d) (λ op. call_of op pool d) c e in
+    chosen HasValidNames (bytes_eq op.value (codes "exists")) _ _
+    (mapped HasValidNames (λ (n : List ℕ). call.Query (Exists n)) (only_name pool d) (λ n is. (valid-only pool d n is, tt)))
+    (mapped HasValidNames (λ (k : Command). call.Command k) (command_of op.value pool d) (command-names op.value pool d)) c op.gives
 
 -- each call of an array of arrays of calls
 array-names : (pool : List ℕ) (limit : ℕ) (d : Data) (cs : List Call) → array_within limit (call_at pool) d ≡ Some cs → All HasValidNames cs

@@ -1,56 +1,23 @@
 -- Which document the bytes are: one JSON object (RFC 8259) of the form that is built so far.
-use Rattle.std.specs.Prelude.{◌≡◌, ⊤, ℕ, ◌^◌, ◌&&◌, Bool, nat_le, if◌then◌else◌, List, [], length, codes, bytes_eq, Option, Some, None, option_map, Result, Ok, Err}
+use Rattle.std.specs.Prelude.{◌≡◌, ⊤, ℕ, ◌^◌, ◌&&◌, Bool, nat_le, if◌then◌else◌, List, [], length, codes, Option, Some, None, option_map, Result, Ok, Err}
 use Rattle.std.specs.Str.{is_utf8}
 use Rattle.serde_json.specs.Data.{Data, string, Items, no_items, item}
 use Rattle.serde_json.specs.Read.{read}
-use Rattle.serde_json.specs.Find.{as_str, as_array}
-use Rattle.zp_names.specs.Names.{is_valid_name}
-use Rattle.zp_names.specs.NameParts.{is_pool, pool_of}
-use Rattle.zp_names.specs.declared.command.Command.TheVariants.{Create}
-use Rattle.zp_names.specs.declared.command.Query.TheVariants.{Exists}
+use Rattle.serde_json.specs.Find.{as_array}
 use Rattle.txg_core.specs.declared.event.Event.{Event}
 use Rattle.txg_core.specs.Events.{event_of_step, event_of_transition, step_named, transition_named}
 use Rattle.zp_tree.specs.Tree.{Tree}
 use Rattle.zp_tree.specs.NewPool.{new_pool}
 use Rattle.zp_calls.specs.declared.call.Call.{Call}
-use Rattle.zp_calls.specs.declared.call.Call.TheVariants as call
 use Rattle.zc_doc.specs.declared.document.Document.{Document}
 use Rattle.zc_doc.specs.declared.error.DocError.{DocError}
 use Rattle.zc_doc.specs.declared.error.DocError.TheVariants.{NotBuilt, NoMemory}
 use Rattle.zc_doc.specs.declared.program.Program.{Program}
 use Rattle.zc_doc.specs.declared.document.Need.{Need}
 use Rattle.zc_doc.specs.declared.document.Need.TheVariants as need
-use Rattle.zc_doc.specs.Reading.{◌>>=◌, where_passes, number_below, member, has_width, array_within, is_empty_array, only_if, has_member, member_or, member_passes}
+use Rattle.zc_doc.specs.Calls.{pool_at, call_at}
+use Rattle.zc_doc.specs.Reading.{◌>>=◌, number_below, member, has_width, array_within, is_empty_array, only_if, has_member, member_or, member_passes}
 use Rattle.zc_doc.specs.Programs.{programs_at}
-
--- ---- names
-
--- a valid name
-abbrev pub any_name_at : Data → Option (List ℕ)
-any_name_at d = as_str d >>= where_passes is_valid_name
-
--- the name of a pool: one part, no mark
-abbrev pub pool_at : Data → Option (List ℕ)
-pool_at d = any_name_at d >>= where_passes is_pool
-
--- a name in the pool
-abbrev pub name_at : List ℕ → Data → Option (List ℕ)
-name_at pool d = any_name_at d >>= where_passes (λ name. bytes_eq (pool_of name) pool)
-
--- ---- calls
-
-abbrev pub call_of : List ℕ → List ℕ → Option Call
-call_of op name = if bytes_eq op (codes "create") then Some (call.Command (Create name)) else (if bytes_eq op (codes "exists") then Some (call.Query (Exists name)) else None)
-
--- {"name": .., "op": ..}
-unfoldable pub call_members : List ℕ → Data → Option Call
-call_members pool d = do
-  op ← member as_str (codes "op") d
-  name ← member (name_at pool) (codes "name") d
-  call_of op name
-
-abbrev pub call_at : List ℕ → Data → Option Call
-call_at pool d = only_if (has_width 2 d) (call_members pool d)
 
 -- ---- events
 

@@ -1,4 +1,5 @@
 pub mod Reading
 pub mod Programs
+pub mod Calls
 pub mod Document
 pub mod Refusals

@@ -2,6 +2,7 @@
 
 ghost use Rattle.std.specs.Prelude.{◌≡◌, Option};
 ghost use Rattle.serde_json.specs.Data.{Data};
+ghost use Rattle.serde_json.specs.Find.{as_str};
 ghost use Rattle.serde_json.specs.View.{view, items_view};
 ghost use Rattle.zc_doc.specs.Reading.{Gives, number_below, member, width_of, length_of, has_width, items, array_within, is_empty_array};
 
@@ -9,7 +10,7 @@ use crate::DocError;
 use serde_json::Value;
 use std::alloc::Global;
 use zc_io::NoMemory;
-use zp_names::Sequence;
+use zp_names::{Bytes, Sequence};
 
 /// Reads what stands at one place of a document.
 pub(crate) trait Reader {
@@ -38,6 +39,23 @@ impl Reader for NumberBelow {
             Some(number) if number < self.limit => Ok(number),
             _ => Err(DocError::NotBuilt),
         }
+    }
+}
+
+/// A text of any length.
+#[derive(Drop)]
+pub(crate) struct Text;
+
+impl Reader for Text {
+    type Out = Bytes;
+
+    ghost reads = { λ _. as_str };
+
+    fn read(&self, alloc: Global, value: &Value) -> Result<Bytes, DocError> {
+        let Some(text) = value.as_str() else {
+            return Err(DocError::NotBuilt);
+        };
+        Ok(Sequence::from_bytes(alloc, text.as_bytes())?)
     }
 }
 

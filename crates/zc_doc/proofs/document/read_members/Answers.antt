@@ -1,7 +1,8 @@
 use Rattle.std.proofs.Common.{◌≡◌, ◌≤◌, length, arith, codes, ap}
 use Rattle.serde_json.specs.View.{view}
 use Rattle.zc_doc.specs.Reading.{array_within}
-use Rattle.zc_doc.specs.Document.{call_at, most_calls, most_sessions}
+use Rattle.zc_doc.specs.Calls.{call_at}
+use Rattle.zc_doc.specs.Document.{most_calls, most_sessions}
 use Rattle.zc_doc.proofs.Values.{within-length}
 use Rattle.zc_doc.proofs.Documents.{pool-is}
 use Rattle.zc_doc.proofs.document.read_members.Goals as goal
