@@ -263,3 +263,12 @@ text_has_no_such_key_tree = block (gives (dot (Paren 0 1 (text "x")) "foo" ∷ [
 text_has_no_such_key : run [] [] text_has_no_such_key_tree 100 1000 ≡ Answers (value.Nil ∷ []) 6 64 []
 unfolding computing
 text_has_no_such_key = refl
+
+-- x:f(y())
+-- The method is looked up before the arguments are evaluated.
+abbrev method_before_its_arguments_tree : Tree
+method_before_its_arguments_tree = block (does (Method 0 1 (global "x") (codes "f") (parts (call (global "y") [] ∷ []))) ∷ [])
+
+method_before_its_arguments : run [] [] method_before_its_arguments_tree 100 1000 ≡ Fails (codes "[string \"channel program\"]:1: attempt to index a nil value") 4 146 []
+unfolding computing
+method_before_its_arguments = refl

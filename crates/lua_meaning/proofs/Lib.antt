@@ -8,6 +8,7 @@ mod ExpressionExamples
 mod ListExamples
 mod OperatorExamples
 mod MetamethodExamples
+mod IndexingExamples
 mod CoroutineExamples
 mod LimitExamples
 pub mod Counts

@@ -5,7 +5,7 @@ use Rattle.std.specs.Int.{int_wrap}
 use Rattle.zc_budget.specs.declared.budget.Stop.TheVariants as stop
 use Rattle.lua_ast.specs.declared.node.Literal.TheVariants as literal
 use Rattle.lua_ast.specs.declared.node.BinOp.TheVariants as bin
-use Rattle.lua_ast.specs.Tree.{Tree, While, NumFor, Const, absent, no_field, item}
+use Rattle.lua_ast.specs.Tree.{Tree, While, If, NumFor, Const, no_case, case, absent, present, no_field, item, named}
 use Rattle.lua_meaning.specs.declared.value.Value.TheVariants as value
 use Rattle.lua_meaning.specs.Nodes.{eval, statements, each_first, expressions, targets_of, target_of, choose, maybe_eval, step_of, each_field, all_fields}
 use Rattle.lua_meaning.specs.Programs.{jobs, resume}
@@ -150,3 +150,26 @@ three_hundred_turns_tree = block
 three_hundred_turns : run [] [] three_hundred_turns_tree 100000 100000 ≡ Answers (value.Int (pos 45150) ∷ []) 2108 64 []
 unfolding computing
 three_hundred_turns = refl
+
+-- local t = setmetatable({}, {__tostring = function() return "" end}) local function f(n) if n == 0 then return tostring(t) else return f(n - 1) end end f(197)
+-- `tostring` is a call in progress while the function that it called runs.
+abbrev tostring_in_progress_function_1 : Tree
+tostring_in_progress_function_1 = function 100 [] false (gives (text "" ∷ []) ∷ [])
+
+abbrev tostring_in_progress_function_2 : Tree
+tostring_in_progress_function_2 = function 101 ("n" ∷ []) false
+    (If 0 1
+    (case no_case (binary bin.Eq (name 2 "n") (int 0)) (block (gives (call (global "tostring") (name 0 "t" ∷ []) ∷ []) ∷ [])))
+    (present (block (gives (call (name 1 "f") (binary bin.Sub (name 2 "n") (int 1) ∷ []) ∷ []) ∷ []))) ∷ [])
+
+abbrev tostring_in_progress_tree : Tree
+tostring_in_progress_tree = block
+    (local 0 ("t" ∷ [])
+    (call (global "setmetatable")
+    (table no_field ∷ table (named no_field (codes "__tostring") tostring_in_progress_function_1) ∷ []) ∷ [])
+    ∷ local_function 1 "f" tostring_in_progress_function_2
+    ∷ does (call (name 1 "f") (int 197 ∷ [])) ∷ [])
+
+tostring_in_progress : run (written tostring_in_progress_function_1 0 [] ∷ written tostring_in_progress_function_2 2 (0 ∷ 1 ∷ []) ∷ []) (0 ∷ 1 ∷ []) tostring_in_progress_tree 100000 100000 ≡ Fails (codes "[string \"channel program\"]:1: stack overflow") 2389 484 []
+unfolding computing
+tostring_in_progress = refl

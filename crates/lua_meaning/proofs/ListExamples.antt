@@ -6,7 +6,7 @@ use Rattle.lua_ast.specs.declared.node.Literal.TheVariants as literal
 use Rattle.lua_ast.specs.declared.node.BinOp.TheVariants as bin
 use Rattle.lua_ast.specs.declared.node.UnOp.TheVariants as un
 use Rattle.lua_ast.specs.declared.node.LogicOp.TheVariants as logic_op
-use Rattle.lua_ast.specs.Tree.{Tree, Block, CallStat, Return, Const, Vararg, Function, Name, Index, Call, Logic, Unary, Paren, no_field, item, named}
+use Rattle.lua_ast.specs.Tree.{Tree, Block, CallStat, Return, Const, Vararg, Function, Name, Index, Call, Method, Logic, Unary, Paren, no_field, item, named}
 use Rattle.lua_meaning.specs.declared.value.Value.TheVariants as value
 use Rattle.lua_meaning.specs.Nodes.{eval, statements, each_first, expressions, targets_of, target_of, choose, maybe_eval, step_of, each_field, all_fields}
 use Rattle.lua_meaning.specs.Programs.{jobs, resume}
@@ -230,3 +230,16 @@ call_front_251_tree = block
 call_front_251 : run (written twenty_five_more 0 [] ∷ written call_front_251_function_2 0 [] ∷ []) [] call_front_251_tree 100000 100000 ≡ Fails (codes "[string \"channel program\"]:2: too many values") 314 405 []
 unfolding computing
 call_front_251 = refl
+
+-- local function t(...) return 1, 1, 1, 1, 1, 1, 1, 1, 1, 1, 1, 1, 1, 1, 1, 1, 1, 1, 1, 1, 1, 1, 1, 1, 1, ... end local o = {}
+-- o:m(t(t(t(t(t(t(t(t(t(t()))))))))))
+-- The object counts, and the list is told before the nil that would be called.
+abbrev method_251_tree : Tree
+method_251_tree = block
+    (local_function 0 "t" twenty_five_more
+    ∷ local 1 ("o" ∷ []) (table no_field ∷ [])
+    ∷ CallStat 0 2 (Method 0 2 (Name 2 2 (codes "o")) (codes "m") (parts (two_hundred_and_fifty ∷ []))) ∷ [])
+
+method_251 : run (written twenty_five_more 0 [] ∷ []) [] method_251_tree 100000 100000 ≡ Fails (codes "[string \"channel program\"]:2: too many values") 308 245 []
+unfolding computing
+method_251 = refl

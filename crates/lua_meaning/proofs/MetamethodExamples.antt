@@ -6,7 +6,7 @@ use Rattle.lua_ast.specs.declared.node.Literal.TheVariants as literal
 use Rattle.lua_ast.specs.declared.node.BinOp.TheVariants as bin
 use Rattle.lua_ast.specs.declared.node.UnOp.TheVariants as un
 use Rattle.lua_ast.specs.declared.node.LogicOp.TheVariants as logic_op
-use Rattle.lua_ast.specs.Tree.{Tree, Assign, GenFor, Return, Const, Name, Index, Call, Logic, Unary, Paren, no_field, item, named}
+use Rattle.lua_ast.specs.Tree.{Tree, GenFor, Return, Const, Vararg, Name, Call, Binary, Logic, Unary, Paren, no_field, item, named}
 use Rattle.lua_meaning.specs.declared.value.Value.TheVariants as value
 use Rattle.lua_meaning.specs.Nodes.{eval, statements, each_first, expressions, targets_of, target_of, choose, maybe_eval, step_of, each_field, all_fields}
 use Rattle.lua_meaning.specs.Programs.{jobs, resume}
@@ -192,96 +192,6 @@ less_or_equal_by_metamethod : run (written less_or_equal_by_metamethod_function 
 unfolding computing
 less_or_equal_by_metamethod = refl
 
--- local t = setmetatable({}, {__index = function(t, k) return k .. "!" end}) return t.a
-abbrev index_function_function : Tree
-index_function_function = function 100 ("t" ∷ "k" ∷ []) false (gives (binary bin.Concat (name 2 "k") (text "!") ∷ []) ∷ [])
-
-abbrev index_function_tree : Tree
-index_function_tree = block
-    (local 0 ("t" ∷ [])
-    (call (global "setmetatable")
-    (table no_field ∷ table (named no_field (codes "__index") index_function_function) ∷ []) ∷ [])
-    ∷ gives (dot (name 0 "t") "a" ∷ []) ∷ [])
-
-index_function : run (written index_function_function 1 [] ∷ []) [] index_function_tree 100000 100000 ≡ Answers (value.Text (codes "a!") ∷ []) 18 314 []
-unfolding computing
-index_function = refl
-
--- local a = {x = 5} local b = setmetatable({}, {__index = a}) local c = setmetatable({}, {__index = b}) return c.x
-abbrev index_table_of_index_table_tree : Tree
-index_table_of_index_table_tree = block
-    (local 0 ("a" ∷ []) (table (named no_field (codes "x") (int 5)) ∷ [])
-    ∷ local 1 ("b" ∷ [])
-    (call (global "setmetatable") (table no_field ∷ table (named no_field (codes "__index") (name 0 "a")) ∷ []) ∷ [])
-    ∷ local 2 ("c" ∷ [])
-    (call (global "setmetatable") (table no_field ∷ table (named no_field (codes "__index") (name 1 "b")) ∷ []) ∷ [])
-    ∷ gives (dot (name 2 "c") "x" ∷ []) ∷ [])
-
-index_table_of_index_table : run [] [] index_table_of_index_table_tree 100000 100000 ≡ Answers (value.Int (pos 5) ∷ []) 24 528 []
-unfolding computing
-index_table_of_index_table = refl
-
--- local t = setmetatable({}, {__index = 5}) return t.a
-abbrev index_number_tree : Tree
-index_number_tree = block
-    (local 0 ("t" ∷ [])
-    (call (global "setmetatable") (table no_field ∷ table (named no_field (codes "__index") (int 5)) ∷ []) ∷ [])
-    ∷ gives (dot (name 0 "t") "a" ∷ []) ∷ [])
-
-index_number : run [] [] index_number_tree 100000 100000 ≡ Fails (codes "[string \"channel program\"]:1: attempt to index a number value") 13 325 []
-unfolding computing
-index_number = refl
-
--- local function g(k) return k .. k end local t = setmetatable({}, {__index = function(t, k) return g(k) end}) return t.ab
-abbrev index_function_that_calls_another_function_1 : Tree
-index_function_that_calls_another_function_1 = function 100 ("k" ∷ []) false (gives (binary bin.Concat (name 1 "k") (name 1 "k") ∷ []) ∷ [])
-
-abbrev index_function_that_calls_another_function_2 : Tree
-index_function_that_calls_another_function_2 = function 101 ("t" ∷ "k" ∷ []) false (gives (call (name 0 "g") (name 4 "k" ∷ []) ∷ []) ∷ [])
-
-abbrev index_function_that_calls_another_tree : Tree
-index_function_that_calls_another_tree = block
-    (local_function 0 "g" index_function_that_calls_another_function_1
-    ∷ local 2 ("t" ∷ [])
-    (call (global "setmetatable")
-    (table no_field
-    ∷ table (named no_field (codes "__index") index_function_that_calls_another_function_2) ∷ []) ∷ [])
-    ∷ gives (dot (name 2 "t") "ab" ∷ []) ∷ [])
-
-index_function_that_calls_another : run (written index_function_that_calls_another_function_1 1 [] ∷ written index_function_that_calls_another_function_2 3 (0 ∷ []) ∷ []) (0 ∷ []) index_function_that_calls_another_tree 100000 100000 ≡ Answers (value.Text (codes "abab") ∷ []) 25 404 []
-unfolding computing
-index_function_that_calls_another = refl
-
--- local log = {} local t = setmetatable({}, {__newindex = function(t, k, v) log[k] = v end}) t.a = 5 return log.a
-abbrev newindex_function_function : Tree
-newindex_function_function = function 100 ("t" ∷ "k" ∷ "v" ∷ []) false (assign (Index 0 1 (name 0 "log") (name 3 "k") ∷ []) (name 4 "v" ∷ []) ∷ [])
-
-abbrev newindex_function_tree : Tree
-newindex_function_tree = block
-    (local 0 ("log" ∷ []) (table no_field ∷ [])
-    ∷ local 1 ("t" ∷ [])
-    (call (global "setmetatable")
-    (table no_field ∷ table (named no_field (codes "__newindex") newindex_function_function) ∷ []) ∷ [])
-    ∷ assign (dot (name 1 "t") "a" ∷ []) (int 5 ∷ [])
-    ∷ gives (dot (name 0 "log") "a" ∷ []) ∷ [])
-
-newindex_function : run (written newindex_function_function 2 (0 ∷ []) ∷ []) (0 ∷ []) newindex_function_tree 100000 100000 ≡ Answers (value.Int (pos 5) ∷ []) 26 440 []
-unfolding computing
-newindex_function = refl
-
--- local a = {} local t = setmetatable({}, {__newindex = a}) t.x = 5 return a.x
-abbrev newindex_table_tree : Tree
-newindex_table_tree = block
-    (local 0 ("a" ∷ []) (table no_field ∷ [])
-    ∷ local 1 ("t" ∷ [])
-    (call (global "setmetatable") (table no_field ∷ table (named no_field (codes "__newindex") (name 0 "a")) ∷ []) ∷ [])
-    ∷ assign (dot (name 1 "t") "x" ∷ []) (int 5 ∷ [])
-    ∷ gives (dot (name 0 "a") "x" ∷ []) ∷ [])
-
-newindex_table : run [] [] newindex_table_tree 100000 100000 ≡ Answers (value.Int (pos 5) ∷ []) 20 352 []
-unfolding computing
-newindex_table = refl
-
 -- local t = setmetatable({}, {__call = function(self, a, b) return a * 10 + b end}) return t(4, 2)
 abbrev call_metamethod_function : Tree
 call_metamethod_function = function 100 ("self" ∷ "a" ∷ "b" ∷ []) false
@@ -368,32 +278,6 @@ tostring_metamethod_gives_no_text : run (written tostring_metamethod_gives_no_te
 unfolding computing
 tostring_metamethod_gives_no_text = refl
 
--- local t = setmetatable({a = 1}, {__newindex = 5}) t.a = 2 return t.a
--- A key that has a value is assigned without the metamethod.
-abbrev newindex_of_a_key_with_a_value_tree : Tree
-newindex_of_a_key_with_a_value_tree = block
-    (local 0 ("t" ∷ [])
-    (call (global "setmetatable")
-    (table (named no_field (codes "a") (int 1)) ∷ table (named no_field (codes "__newindex") (int 5)) ∷ []) ∷ [])
-    ∷ assign (dot (name 0 "t") "a" ∷ []) (int 2 ∷ [])
-    ∷ gives (dot (name 0 "t") "a" ∷ []) ∷ [])
-
-newindex_of_a_key_with_a_value : run [] [] newindex_of_a_key_with_a_value_tree 100 1000 ≡ Answers (value.Int (pos 2) ∷ []) 18 288 []
-unfolding computing
-newindex_of_a_key_with_a_value = refl
-
--- local t = setmetatable({}, {__newindex = 5})
--- t.b = 2
-abbrev newindex_number_tree : Tree
-newindex_number_tree = block
-    (local 0 ("t" ∷ [])
-    (call (global "setmetatable") (table no_field ∷ table (named no_field (codes "__newindex") (int 5)) ∷ []) ∷ [])
-    ∷ Assign 0 2 (parts (Index 0 2 (Name 1 2 (codes "t")) (text "b") ∷ [])) (parts (int 2 ∷ [])) ∷ [])
-
-newindex_number : run [] [] newindex_number_tree 100 1000 ≡ Fails (codes "[string \"channel program\"]:2: attempt to index a number value") 14 325 []
-unfolding computing
-newindex_number = refl
-
 -- local function f() return true end local function g() return true end
 -- return setmetatable({}, {__eq = f}) == setmetatable({}, {__eq = g})
 abbrev eq_of_two_functions_f : Tree
@@ -414,3 +298,93 @@ eq_of_two_functions_tree = block
 eq_of_two_functions : run (written eq_of_two_functions_f 2 [] ∷ written eq_of_two_functions_g 2 [] ∷ []) [] eq_of_two_functions_tree 100 1000 ≡ Answers (value.Bool false ∷ []) 19 512 []
 unfolding computing
 eq_of_two_functions = refl
+
+-- local a = setmetatable({}, {__add = function() return 1 end}) local b = setmetatable({}, {__add = function() return 2 end}) return (a + b) * 10 + (b + a)
+abbrev metamethod_of_the_left_a : Tree
+metamethod_of_the_left_a = function 100 [] false (gives (int 1 ∷ []) ∷ [])
+
+abbrev metamethod_of_the_left_b : Tree
+metamethod_of_the_left_b = function 101 [] false (gives (int 2 ∷ []) ∷ [])
+
+abbrev metamethod_of_the_left_tree : Tree
+metamethod_of_the_left_tree = block
+    (local 0 ("a" ∷ [])
+    (call (global "setmetatable") (table no_field ∷ table (named no_field (codes "__add") metamethod_of_the_left_a) ∷ []) ∷ [])
+    ∷ local 1 ("b" ∷ [])
+    (call (global "setmetatable") (table no_field ∷ table (named no_field (codes "__add") metamethod_of_the_left_b) ∷ []) ∷ [])
+    ∷ gives
+    (binary bin.Add
+    (binary bin.Mul (Paren 0 1 (binary bin.Add (name 0 "a") (name 1 "b"))) (int 10))
+    (Paren 0 1 (binary bin.Add (name 1 "b") (name 0 "a"))) ∷ []) ∷ [])
+
+metamethod_of_the_left : run (written metamethod_of_the_left_a 2 [] ∷ written metamethod_of_the_left_b 2 [] ∷ []) [] metamethod_of_the_left_tree 100 1000 ≡ Answers (value.Int (pos 12) ∷ []) 35 512 []
+unfolding computing
+metamethod_of_the_left = refl
+
+-- local a = setmetatable({}, {__lt = function() return true end}) local b = setmetatable({}, {__lt = function() return false end}) return a <= b
+-- It is `not (b < a)`, for which the metamethod of `b` is taken first.
+abbrev less_or_equal_by_lt_of_the_right_a : Tree
+less_or_equal_by_lt_of_the_right_a = function 100 [] false (gives (Const 0 1 (literal.Bool true) ∷ []) ∷ [])
+
+abbrev less_or_equal_by_lt_of_the_right_b : Tree
+less_or_equal_by_lt_of_the_right_b = function 101 [] false (gives (Const 0 1 (literal.Bool false) ∷ []) ∷ [])
+
+abbrev less_or_equal_by_lt_of_the_right_tree : Tree
+less_or_equal_by_lt_of_the_right_tree = block
+    (local 0 ("a" ∷ [])
+    (call (global "setmetatable") (table no_field ∷ table (named no_field (codes "__lt") less_or_equal_by_lt_of_the_right_a) ∷ []) ∷ [])
+    ∷ local 1 ("b" ∷ [])
+    (call (global "setmetatable") (table no_field ∷ table (named no_field (codes "__lt") less_or_equal_by_lt_of_the_right_b) ∷ []) ∷ [])
+    ∷ gives (binary bin.LessEq (name 0 "a") (name 1 "b") ∷ []) ∷ [])
+
+less_or_equal_by_lt_of_the_right : run (written less_or_equal_by_lt_of_the_right_a 2 [] ∷ written less_or_equal_by_lt_of_the_right_b 2 [] ∷ []) [] less_or_equal_by_lt_of_the_right_tree 100 1000 ≡ Answers (value.Bool true ∷ []) 23 512 []
+unfolding computing
+less_or_equal_by_lt_of_the_right = refl
+
+-- local a = setmetatable({}, {__lt = function() return true end}) local b = setmetatable({}, {__le = function() return true end}) return a <= b
+-- `__le` of either comes before `__lt`, which would give false.
+abbrev le_before_lt_a : Tree
+le_before_lt_a = function 100 [] false (gives (Const 0 1 (literal.Bool true) ∷ []) ∷ [])
+
+abbrev le_before_lt_b : Tree
+le_before_lt_b = function 101 [] false (gives (Const 0 1 (literal.Bool true) ∷ []) ∷ [])
+
+abbrev le_before_lt_tree : Tree
+le_before_lt_tree = block
+    (local 0 ("a" ∷ [])
+    (call (global "setmetatable") (table no_field ∷ table (named no_field (codes "__lt") le_before_lt_a) ∷ []) ∷ [])
+    ∷ local 1 ("b" ∷ [])
+    (call (global "setmetatable") (table no_field ∷ table (named no_field (codes "__le") le_before_lt_b) ∷ []) ∷ [])
+    ∷ gives (binary bin.LessEq (name 0 "a") (name 1 "b") ∷ []) ∷ [])
+
+le_before_lt : run (written le_before_lt_a 2 [] ∷ written le_before_lt_b 2 [] ∷ []) [] le_before_lt_tree 100 1000 ≡ Answers (value.Bool true ∷ []) 23 512 []
+unfolding computing
+le_before_lt = refl
+
+-- local t = setmetatable({}, {__add = 5})
+-- return t + 1
+-- The instruction of the metamethod comes before its call fails.
+abbrev metamethod_is_no_function_tree : Tree
+metamethod_is_no_function_tree = block
+    (local 0 ("t" ∷ [])
+    (call (global "setmetatable") (table no_field ∷ table (named no_field (codes "__add") (int 5)) ∷ []) ∷ [])
+    ∷ Return 0 2 (parts (Binary 0 2 bin.Add (Name 1 2 (codes "t")) (int 1) ∷ [])) ∷ [])
+
+metamethod_is_no_function : run [] [] metamethod_is_no_function_tree 100 1000 ≡ Fails (codes "[string \"channel program\"]:2: attempt to call a number value") 13 324 []
+unfolding computing
+metamethod_is_no_function = refl
+
+-- local t = setmetatable({}, {__unm = function(...) return #{...} end}) return -t
+-- A metamethod of an operator on one operand has that argument alone.
+abbrev unm_has_one_argument_function : Tree
+unm_has_one_argument_function = function 100 [] true (gives (Unary 0 1 un.Len (table (item no_field (Vararg 0 1))) ∷ []) ∷ [])
+
+abbrev unm_has_one_argument_tree : Tree
+unm_has_one_argument_tree = block
+    (local 0 ("t" ∷ [])
+    (call (global "setmetatable") (table no_field ∷ table (named no_field (codes "__unm") unm_has_one_argument_function) ∷ []) ∷ [])
+    ∷ gives (Unary 0 1 un.Neg (name 0 "t") ∷ []) ∷ [])
+
+unm_has_one_argument : run (written unm_has_one_argument_function 1 [] ∷ []) [] unm_has_one_argument_tree 100 1000 ≡ Answers (value.Int (pos 1) ∷ []) 17 400 []
+unfolding computing
+unm_has_one_argument = refl

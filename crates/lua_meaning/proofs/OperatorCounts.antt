@@ -15,7 +15,7 @@ use Rattle.lua_meaning.specs.Tables.{was_put}
 use Rattle.lua_meaning.specs.Heap.{HeapOf, ClosureOf, table_at, with_entry, with_cell, with_table, with_closure, cell_bytes, key_bytes, table_bytes, metamethod, entry, text_bytes}
 use Rattle.lua_meaning.specs.Store.{Cell, store, heap_of, with_heap}
 use Rattle.lua_meaning.specs.Code.{Code}
-use Rattle.lua_meaning.specs.Runs.{Run, go, put_by, put, new_table, new_closure, error_text}
+use Rattle.lua_meaning.specs.Runs.{Run, go, put_by, put, new_table, new_closure, error_text, attempt_text}
 use Rattle.lua_meaning.specs.Locals.{declare_by, declare_all, with_local}
 use Rattle.lua_meaning.specs.Jobs.{Again, Job, Apply, Look, Put}
 use Rattle.lua_meaning.specs.Operators.{Op, OpAnswer, Done, Meta, Raise, Stopped, Texts, texts, not_texts, two_texts, either, event, first_without, done, op_fails_on, fails_compare, op_charge, op_ticks, op_fails, by_meta_or, worked, arith as arith_op, concat, negative, less as less_op, less_or_same, equal, common, own_length, len, told, negated_if, binary_op, unary_op, by_meta, answered_op, operate}
@@ -97,11 +97,11 @@ module _ {H : Type 0} where
 
   arith_keeps : (l : Plan H) (u : ℕ) (op : BinOp) (n : Numbers) (a b : Value) (lines : List ℕ) → Keeps l u (arith_op op n a b lines)
   arith_keeps l u op (both x y) a b lines = worked_keeps l u (work_out op x y) lines
-  arith_keeps l u op not_both a b lines = λ h e. by_meta_or_keeps l u (either h (event op) a b) (a ∷ b ∷ []) false (op_fails_on lines (codes "perform arithmetic on") (first_without to_int a b)) (op_fails_keeps l u lines (codes "attempt to " ++ codes "perform arithmetic on" ++ codes " a " ++ type_name (first_without to_int a b) ++ codes " value")) h e
+  arith_keeps l u op not_both a b lines = λ h e. by_meta_or_keeps l u (either h (event op) a b) (a ∷ b ∷ []) false (op_fails_on lines (codes "perform arithmetic on") (first_without to_int a b)) (op_fails_keeps l u lines (attempt_text (codes "perform arithmetic on") (first_without to_int a b))) h e
 
   concat_keeps : (l : Plan H) (u : ℕ) (t : Texts) (a b : Value) (lines : List ℕ) → Keeps l u (concat t a b lines)
   concat_keeps l u (texts x y) a b lines = charges l u (text_bytes (x ++ y)) (op_ticks (length (x ++ y) / 64) (done (value.Text (x ++ y)))) (op_ticks_keep l u (length (x ++ y) / 64) (done (value.Text (x ++ y))) (λ h e. e))
-  concat_keeps l u not_texts a b lines = λ h e. by_meta_or_keeps l u (either h (codes "__concat") a b) (a ∷ b ∷ []) false (op_fails_on lines (codes "concatenate") (first_without as_text a b)) (op_fails_keeps l u lines (codes "attempt to " ++ codes "concatenate" ++ codes " a " ++ type_name (first_without as_text a b) ++ codes " value")) h e
+  concat_keeps l u not_texts a b lines = λ h e. by_meta_or_keeps l u (either h (codes "__concat") a b) (a ∷ b ∷ []) false (op_fails_on lines (codes "concatenate") (first_without as_text a b)) (op_fails_keeps l u lines (attempt_text (codes "concatenate") (first_without as_text a b))) h e
 
   compare_keeps : (l : Plan H) (u : ℕ) (a b : Value) (lines : List ℕ) → Keeps l u (fails_compare a b lines)
   compare_keeps l u a b lines = op_fails_keeps l u lines (codes "attempt to compare " ++ type_name a ++ codes " with " ++ type_name b)
@@ -125,7 +125,7 @@ module _ {H : Type 0} where
 
   own_length_keeps : (l : Plan H) (u : ℕ) (a : Value) (lines : List ℕ) → Keeps l u (own_length a lines)
   own_length_keeps l u (value.Table t) lines = λ h e. e
-  own_length_keeps l u a lines = op_fails_keeps l u lines (codes "attempt to " ++ codes "get length of" ++ codes " a " ++ type_name a ++ codes " value")
+  own_length_keeps l u a lines = op_fails_keeps l u lines (attempt_text (codes "get length of") a)
 
   len_keeps : (l : Plan H) (u : ℕ) (a : Value) (lines : List ℕ) → Keeps l u (len a lines)
   len_keeps l u (value.Text x) lines = λ h e. e
@@ -133,7 +133,7 @@ module _ {H : Type 0} where
 
   negative_keeps : (l : Plan H) (u : ℕ) (z : Option ℤ) (a : Value) (lines : List ℕ) → Keeps l u (negative z a lines)
   negative_keeps l u (Some z) a lines = λ h e. e
-  negative_keeps l u None a lines = λ h e. by_meta_or_keeps l u (metamethod h a (codes "__unm")) (a ∷ []) false (op_fails_on lines (codes "perform arithmetic on") a) (op_fails_keeps l u lines (codes "attempt to " ++ codes "perform arithmetic on" ++ codes " a " ++ type_name a ++ codes " value")) h e
+  negative_keeps l u None a lines = λ h e. by_meta_or_keeps l u (metamethod h a (codes "__unm")) (a ∷ []) false (op_fails_on lines (codes "perform arithmetic on") a) (op_fails_keeps l u lines (attempt_text (codes "perform arithmetic on") a)) h e
 
   binary_keeps : (l : Plan H) (u : ℕ) (op : BinOp) (a b : Value) (lines : List ℕ) → Keeps l u (binary_op op a b lines)
   binary_keeps l u bin.Concat a b lines = concat_keeps l u (two_texts (as_text a) (as_text b)) a b lines

@@ -3,10 +3,11 @@ use Rattle.std.specs.Prelude.{◌≡◌, refl, pos, negsuc, true, false, [], ◌
 use Rattle.std.specs.Fmt.{digits}
 use Rattle.std.specs.Int.{int_wrap}
 use Rattle.zc_budget.specs.declared.budget.Stop.TheVariants as stop
+use Rattle.lua_ast.specs.declared.node.Literal.TheVariants as literal
 use Rattle.lua_ast.specs.declared.node.BinOp.TheVariants as bin
 use Rattle.lua_ast.specs.declared.node.UnOp.TheVariants as un
 use Rattle.lua_ast.specs.declared.node.LogicOp.TheVariants as logic_op
-use Rattle.lua_ast.specs.Tree.{Tree, Logic, Unary, Paren, no_field, item}
+use Rattle.lua_ast.specs.Tree.{Tree, Const, Logic, Unary, Paren, no_field, item}
 use Rattle.lua_meaning.specs.declared.value.Value.TheVariants as value
 use Rattle.lua_meaning.specs.Nodes.{eval, statements, each_first, expressions, targets_of, target_of, choose, maybe_eval, step_of, each_field, all_fields}
 use Rattle.lua_meaning.specs.Programs.{jobs, resume}
@@ -272,3 +273,39 @@ joining_takes_memory_first_tree = block
 joining_takes_memory_first : run [] [] joining_takes_memory_first_tree 5 1000 ≡ Ends stop.Instructions 5 152 []
 unfolding computing
 joining_takes_memory_first = refl
+
+-- return "-9223372036854775808" + 0
+-- A numeral has to be in range without its sign.
+abbrev text_out_of_range_tree : Tree
+text_out_of_range_tree = block (gives (binary bin.Add (text "-9223372036854775808") (int 0) ∷ []) ∷ [])
+
+text_out_of_range : run [] [] text_out_of_range_tree 100 1000 ≡ Fails (codes "[string \"channel program\"]:1: attempt to perform arithmetic on a string value") 5 165 []
+unfolding computing
+text_out_of_range = refl
+
+-- return "\t+7\f" + "-0xA"
+abbrev texts_with_signs_tree : Tree
+texts_with_signs_tree = block (gives (binary bin.Add (Const 0 1 (literal.Text (9 ∷ 43 ∷ 55 ∷ 12 ∷ []))) (text "-0xA") ∷ []) ∷ [])
+
+texts_with_signs : run [] [] texts_with_signs_tree 100 1000 ≡ Answers (value.Int (negsuc 2) ∷ []) 5 64 []
+unfolding computing
+texts_with_signs = refl
+
+-- return nil .. {}
+-- Where both operands fail, the text names the type of the first.
+abbrev two_operands_fail_tree : Tree
+two_operands_fail_tree = block (gives (binary bin.Concat nil (table no_field) ∷ []) ∷ [])
+
+two_operands_fail : run [] [] two_operands_fail_tree 100 1000 ≡ Fails (codes "[string \"channel program\"]:1: attempt to concatenate a nil value") 5 216 []
+unfolding computing
+two_operands_fail = refl
+
+-- return 1 +
+-- -nil
+-- The line is that of the operator at work, not of the expression around it.
+abbrev line_of_an_operand_tree : Tree
+line_of_an_operand_tree = block (gives (binary bin.Add (int 1) (Unary 0 2 un.Neg (Const 0 2 literal.Nil)) ∷ []) ∷ [])
+
+line_of_an_operand : run [] [] line_of_an_operand_tree 100 1000 ≡ Fails (codes "[string \"channel program\"]:2: attempt to perform arithmetic on a nil value") 6 162 []
+unfolding computing
+line_of_an_operand = refl

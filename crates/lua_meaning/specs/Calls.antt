@@ -1,5 +1,5 @@
 -- Calls of closures, built-ins and iterator functions, `__call`, and what a built-in's answer does (Lua 5.2 manual, 2.4, 3.4.9 and 3.4.10).
--- This project's own: at most 200 calls are in progress, and no yield crosses a built-in that waits for a function.
+-- This project's own: the call of a built-in, of an iterator function and of `__call` is one instruction, at most 200 calls are in progress, no yield crosses a built-in that waits for a function, and the result of `__tostring` is a text.
 use Rattle.std.specs.Prelude.{ℕ, ◌+◌, nat_le, Bool, true, false, List, [], ◌∷◌, length, drop, codes, if◌then◌else◌, Option, Some, None, slice_get}
 use Rattle.lua_ast.specs.Tree.{Tree, Function}
 use Rattle.lua_meaning.specs.declared.value.Value.{Value}

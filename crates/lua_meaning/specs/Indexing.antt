@@ -1,4 +1,5 @@
 -- `object[key]` and `object[key] = value`, with `__index` and `__newindex` (Lua 5.2 manual, 2.4 and 3.2).
+-- This project's own: the call of a metamethod and a further step are one instruction each.
 use Rattle.std.specs.Prelude.{ℕ, Bool, true, false, List, [], ◌∷◌, codes}
 use Rattle.lua_meaning.specs.declared.value.Value.{Value}
 use Rattle.lua_meaning.specs.declared.value.Value.TheVariants as value

@@ -1,4 +1,5 @@
 -- A turn of each kind of loop (Lua 5.2 manual, 3.3.4 and 3.3.5).
+-- This project's own: a turn is one instruction, and a numeric `for` ends too where the next number would pass 64 bits.
 use Rattle.std.specs.Prelude.{ℕ, ℤ, ◌+ℤ◌, Bool, true, false, List, []}
 use Rattle.lua_ast.specs.Tree.{Tree}
 use Rattle.lua_meaning.specs.declared.value.Value.{Value}

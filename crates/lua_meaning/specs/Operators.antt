@@ -1,5 +1,5 @@
 -- Operators on values (Lua 5.2 manual, 3.4.1 to 3.4.6), and their metamethods (2.4).
--- This project's own: the texts of errors, what `..` costs, and that a comparison looks for `__lt` or `__le` of the left operand first.
+-- This project's own: the texts of errors, what `..` and the call of a metamethod cost, and which metamethod is taken: that of the left operand first, `__le` of either before `__lt`, and for `a <= b` by `__lt` that of `b` first.
 use Rattle.std.specs.Prelude.{ℕ, zero, suc, ◌/◌, ℤ, pos, neg_ℤ, int_lt, Bool, true, false, not, List, [], ◌∷◌, ◌++◌, length, codes, if◌then◌else◌, Option, Some, None}
 use Rattle.std.specs.Ordering.{nat_cmp, is_lt, is_le}
 use Rattle.std.specs.Cmp.Lexicographic.{slice_cmp}
@@ -17,7 +17,7 @@ use Rattle.zc_budget.specs.Used.{is_spent, ticked, is_over, charged}
 use Rattle.zc_budget.specs.declared.budget.Stop.{Stop}
 use Rattle.zc_budget.specs.declared.budget.Stop.TheVariants as stop
 use Rattle.lua_meaning.specs.Store.{Raises, Stops, heap_of, with_heap}
-use Rattle.lua_meaning.specs.Runs.{Run, go, halt, after, tick, error_text}
+use Rattle.lua_meaning.specs.Runs.{Run, go, halt, after, tick, error_text, attempt_text}
 use Rattle.lua_meaning.specs.Jobs.{Again, Apply}
 
 -- the metamethod of the first value that has one
@@ -72,7 +72,7 @@ abbrev pub op_fails : List ℕ → List ℕ → Op
 op_fails lines text = op_charge (text_bytes (error_text lines text)) (λ h. (Raise (value.Text (error_text lines text)), h))
 
 abbrev pub op_fails_on : List ℕ → List ℕ → Value → Op
-op_fails_on lines what v = op_fails lines (codes "attempt to " ++ what ++ codes " a " ++ type_name v ++ codes " value")
+op_fails_on lines what v = op_fails lines (attempt_text what v)
 
 -- by the metamethod, or else by the other way
 abbrev pub by_meta_or : Value → List Value → Bool → Op → Op

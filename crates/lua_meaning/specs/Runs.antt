@@ -27,6 +27,10 @@ error_text lines text = codes "[string \"channel program\"]:" ++ decimal (line_a
 abbrev pub most_values : ℕ
 most_values = 250
 
+-- the text of an error where a value isn't of the type that is wanted
+abbrev pub attempt_text : List ℕ → Value → List ℕ
+attempt_text what v = codes "attempt to " ++ what ++ codes " a " ++ type_name v ++ codes " value"
+
 module _ {H : Type 0} where
   abbrev pub go : List Value → Run H
   go vs s r = Go vs s r
@@ -70,7 +74,7 @@ module _ {H : Type 0} where
   fails lines text = charge (text_bytes (error_text lines text)) (halt (Raises (value.Text (error_text lines text))))
 
   abbrev pub fails_on : List ℕ → List ℕ → Value → Run H
-  fails_on lines what v = fails lines (codes "attempt to " ++ what ++ codes " a " ++ type_name v ++ codes " value")
+  fails_on lines what v = fails lines (attempt_text what v)
 
   -- where a list of arguments or results has at most 250 values
   abbrev pub if_few : List ℕ → List Value → Run H → Run H

@@ -2,17 +2,16 @@
 -- This project's own: pairs stand in the order in which their keys were first put, which is the order of a walk; a key set to nil keeps its place; the border is the least.
 use Rattle.std.specs.Prelude.{ℕ, zero, suc, ◌+◌, pos, Bool, is_some, List, [], ◌∷◌, length, take_while, if◌then◌else◌, Option, Some, None, slice_get}
 use Rattle.std.specs.Map.{lookup}
-use Rattle.std.specs.Option.{unwrap_or}
 use Rattle.lua_meaning.specs.declared.value.Value.{Value}
 use Rattle.lua_meaning.specs.declared.value.Value.TheVariants as value
-use Rattle.lua_meaning.specs.Values.{same, is_nil}
+use Rattle.lua_meaning.specs.Values.{same, is_nil, or_nil}
 
 abbrev pub Pairs : Type 0
 Pairs = List (Value × Value)
 
 -- the value at a key, or nil
 abbrev pub value_at : Pairs → Value → Value
-value_at ps k = unwrap_or (lookup (same k) ps) value.Nil
+value_at ps k = or_nil (lookup (same k) ps)
 
 -- the key has a place
 abbrev pub was_put : Pairs → Value → Bool
