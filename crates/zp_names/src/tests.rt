@@ -105,21 +105,38 @@ fn parts_of_names(rt: HostRuntime) -> Result<(), Fail> {
 }
 
 #[test]
-fn copies(rt: HostRuntime) -> Result<(), Fail> {
+fn copies_a_command(rt: HostRuntime) -> Result<(), Fail> {
     let alloc = rt.alloc();
     let rename = Command::RenameSnapshot {
         name: Name::read(alloc, b"tank/a")?,
         old: Bytes::from_bytes(alloc, b"x")?,
         new: Bytes::from_bytes(alloc, b"y")?,
     };
-    let Command::RenameSnapshot { name, old, new } = rename.copy(alloc)? else {
-        return Err(Fail::from("another command"));
-    };
-    assert!(rt; old.as_slice() == b"x".as_slice());
-    assert!(rt; new.as_slice() == b"y".as_slice());
-    let snapshot = name.snapshot_name(alloc, new.as_slice())?.ok_or("no name")?;
+    match &rename.copy(alloc)? {
+        Command::RenameSnapshot { name, old, new } => {
+            assert_eq!(rt; name.text(), "tank/a");
+            assert!(rt; old.as_slice() == b"x".as_slice());
+            assert!(rt; new.as_slice() == b"y".as_slice());
+            Ok(())
+        }
+        _ => Err(Fail::from("another command")),
+    }
+}
+
+#[test]
+fn names_a_snapshot(rt: HostRuntime) -> Result<(), Fail> {
+    let alloc = rt.alloc();
+    let name = Name::read(alloc, b"tank/a")?;
+    let snapshot = name.snapshot_name(alloc, b"y")?.ok_or("no name")?;
     assert_eq!(rt; snapshot.text(), "tank/a@y");
     assert!(rt; name.snapshot_name(alloc, b"")?.is_none());
+    Ok(())
+}
+
+#[test]
+fn copies_a_query_and_a_verdict(rt: HostRuntime) -> Result<(), Fail> {
+    let alloc = rt.alloc();
+    let name = Name::read(alloc, b"tank/a")?;
     let Query::Exists { name } = (Query::Exists { name }).copy(alloc)?;
     let mut details = Vec::new(alloc);
     details.push(Bytes::from_bytes(alloc, name.text().as_bytes())?)?;
