@@ -336,3 +336,100 @@ built_in_has_the_line_of_its_resumption_tree = block
 built_in_has_the_line_of_its_resumption : run [] [] built_in_has_the_line_of_its_resumption_tree 100 1000 ≡ Answers (value.Text (codes "[string \"channel program\"]:2: x") ∷ []) 19 375 []
 unfolding computing
 built_in_has_the_line_of_its_resumption = refl
+
+-- local t = setmetatable({}, {__tostring = function() return coroutine.wrap(function() coroutine.yield("x") end)() end}) local f = coroutine.wrap(function() coroutine.yield(tostring(t)) return 2 end) return f(), f()
+-- While `tostring` waits, a coroutine that is resumed in it may yield to it; when it has answered, its caller may yield.
+abbrev yields_beside_a_built_in_function_1 : Tree
+yields_beside_a_built_in_function_1 = function 100 [] false (does (call (dot (global "coroutine") "yield") (text "x" ∷ [])) ∷ [])
+
+abbrev yields_beside_a_built_in_function_2 : Tree
+yields_beside_a_built_in_function_2 = function 101 [] false
+    (gives (call (call (dot (global "coroutine") "wrap") (yields_beside_a_built_in_function_1 ∷ [])) [] ∷ []) ∷ [])
+
+abbrev yields_beside_a_built_in_function_3 : Tree
+yields_beside_a_built_in_function_3 = function 102 [] false
+    (does (call (dot (global "coroutine") "yield") (call (global "tostring") (name 0 "t" ∷ []) ∷ []))
+    ∷ gives (int 2 ∷ []) ∷ [])
+
+abbrev yields_beside_a_built_in_tree : Tree
+yields_beside_a_built_in_tree = block
+    (local 0 ("t" ∷ [])
+    (call (global "setmetatable")
+    (table no_field ∷ table (named no_field (codes "__tostring") yields_beside_a_built_in_function_2) ∷ []) ∷ [])
+    ∷ local 1 ("f" ∷ []) (call (dot (global "coroutine") "wrap") (yields_beside_a_built_in_function_3 ∷ []) ∷ [])
+    ∷ gives (call (name 1 "f") [] ∷ call (name 1 "f") [] ∷ []) ∷ [])
+
+yields_beside_a_built_in : run (written yields_beside_a_built_in_function_1 0 [] ∷ written yields_beside_a_built_in_function_2 0 [] ∷ written yields_beside_a_built_in_function_3 0 (0 ∷ []) ∷ []) (0 ∷ []) yields_beside_a_built_in_tree 100 10000 ≡ Answers (value.Text (codes "x") ∷ value.Int (pos 2) ∷ []) 53 1064 []
+unfolding computing
+yields_beside_a_built_in = refl
+
+-- local j = coroutine.wrap(function() local k = 0 while true do k = k + 1 coroutine.yield(k) end end) local i = coroutine.wrap(function() local a = j() coroutine.yield(a) local b = j() return a * 10 + b end) local x = i() local y = j() return x * 1000 + y * 100 + i()
+-- One coroutine is resumed by another, then by the main chunk, then by the other again.
+abbrev resumed_by_two_function_1 : Tree
+resumed_by_two_function_1 = function 100 [] false
+    (local 1 ("k" ∷ []) (int 0 ∷ [])
+    ∷ While 0 1 (Const 0 1 (literal.Bool true))
+    (block
+    (assign (name 1 "k" ∷ []) (binary bin.Add (name 1 "k") (int 1) ∷ [])
+    ∷ does (call (dot (global "coroutine") "yield") (name 1 "k" ∷ [])) ∷ [])) ∷ [])
+
+abbrev resumed_by_two_function_2 : Tree
+resumed_by_two_function_2 = function 101 [] false
+    (local 3 ("a" ∷ []) (call (name 0 "j") [] ∷ [])
+    ∷ does (call (dot (global "coroutine") "yield") (name 3 "a" ∷ []))
+    ∷ local 4 ("b" ∷ []) (call (name 0 "j") [] ∷ [])
+    ∷ gives (binary bin.Add (binary bin.Mul (name 3 "a") (int 10)) (name 4 "b") ∷ []) ∷ [])
+
+abbrev resumed_by_two_tree : Tree
+resumed_by_two_tree = block
+    (local 0 ("j" ∷ []) (call (dot (global "coroutine") "wrap") (resumed_by_two_function_1 ∷ []) ∷ [])
+    ∷ local 2 ("i" ∷ []) (call (dot (global "coroutine") "wrap") (resumed_by_two_function_2 ∷ []) ∷ [])
+    ∷ local 5 ("x" ∷ []) (call (name 2 "i") [] ∷ [])
+    ∷ local 6 ("y" ∷ []) (call (name 0 "j") [] ∷ [])
+    ∷ gives
+    (binary bin.Add
+    (binary bin.Add (binary bin.Mul (name 5 "x") (int 1000)) (binary bin.Mul (name 6 "y") (int 100)))
+    (call (name 2 "i") []) ∷ []) ∷ [])
+
+resumed_by_two : run (written resumed_by_two_function_1 1 [] ∷ written resumed_by_two_function_2 3 (0 ∷ []) ∷ []) (0 ∷ []) resumed_by_two_tree 1000 1000 ≡ Answers (value.Int (pos 1213) ∷ []) 106 840 []
+unfolding computing
+resumed_by_two = refl
+
+-- local co = coroutine.create(function() coroutine.yield()
+-- error("x") end) coroutine.resume(co) local a, b = coroutine.resume(co) local c, d = coroutine.resume(co) return b, d
+abbrev dead_by_an_error_function : Tree
+dead_by_an_error_function = function 100 [] false
+    (does (call (dot (global "coroutine") "yield") [])
+    ∷ CallStat 0 2 (Call 0 2 (Name 0 2 (codes "error")) (parts (text "x" ∷ []))) ∷ [])
+
+abbrev dead_by_an_error_tree : Tree
+dead_by_an_error_tree = block
+    (local 0 ("co" ∷ []) (call (dot (global "coroutine") "create") (dead_by_an_error_function ∷ []) ∷ [])
+    ∷ does (call (dot (global "coroutine") "resume") (name 0 "co" ∷ []))
+    ∷ local 1 ("a" ∷ "b" ∷ []) (call (dot (global "coroutine") "resume") (name 0 "co" ∷ []) ∷ [])
+    ∷ local 3 ("c" ∷ "d" ∷ []) (call (dot (global "coroutine") "resume") (name 0 "co" ∷ []) ∷ [])
+    ∷ gives (name 2 "b" ∷ name 4 "d" ∷ []) ∷ [])
+
+dead_by_an_error : run (written dead_by_an_error_function 0 [] ∷ []) [] dead_by_an_error_tree 100 1000 ≡ Answers (value.Text (codes "[string \"channel program\"]:2: x") ∷ value.Text (codes "cannot resume dead coroutine") ∷ []) 44 475 []
+unfolding computing
+dead_by_an_error = refl
+
+-- local co co = coroutine.create(function() return coroutine.wrap(function() return coroutine.resume(co) end)() end) local a, b, c = coroutine.resume(co) return c
+-- A coroutine that waits for another one isn't resumed.
+abbrev resumes_what_waits_function_2 : Tree
+resumes_what_waits_function_2 = function 101 [] false (gives (call (dot (global "coroutine") "resume") (name 0 "co" ∷ []) ∷ []) ∷ [])
+
+abbrev resumes_what_waits_function_1 : Tree
+resumes_what_waits_function_1 = function 100 [] false
+    (gives (call (call (dot (global "coroutine") "wrap") (resumes_what_waits_function_2 ∷ [])) [] ∷ []) ∷ [])
+
+abbrev resumes_what_waits_tree : Tree
+resumes_what_waits_tree = block
+    (local 0 ("co" ∷ []) []
+    ∷ assign (name 0 "co" ∷ []) (call (dot (global "coroutine") "create") (resumes_what_waits_function_1 ∷ []) ∷ [])
+    ∷ local 1 ("a" ∷ "b" ∷ "c" ∷ []) (call (dot (global "coroutine") "resume") (name 0 "co" ∷ []) ∷ [])
+    ∷ gives (name 3 "c" ∷ []) ∷ [])
+
+resumes_what_waits : run (written resumes_what_waits_function_1 0 (0 ∷ []) ∷ written resumes_what_waits_function_2 0 (0 ∷ []) ∷ []) (0 ∷ []) resumes_what_waits_tree 100 1000 ≡ Answers (value.Text (codes "cannot resume non-suspended coroutine") ∷ []) 37 853 []
+unfolding computing
+resumes_what_waits = refl

@@ -3,7 +3,7 @@ use Rattle.std.specs.Prelude.{◌≡◌, refl, pos, false, [], ◌∷◌, codes}
 use Rattle.std.specs.Fmt.{digits}
 use Rattle.std.specs.Int.{int_wrap}
 use Rattle.lua_ast.specs.declared.node.BinOp.TheVariants as bin
-use Rattle.lua_ast.specs.Tree.{Tree, Do, If, NumFor, Index, no_case, case, absent, no_field}
+use Rattle.lua_ast.specs.Tree.{Tree, Do, Repeat, If, NumFor, Index, no_case, case, absent, no_field}
 use Rattle.lua_meaning.specs.declared.value.Value.TheVariants as value
 use Rattle.lua_meaning.specs.Nodes.{eval, statements, each_first, expressions, targets_of, target_of, choose, maybe_eval, step_of, each_field, all_fields}
 use Rattle.lua_meaning.specs.Programs.{jobs, resume}
@@ -144,3 +144,43 @@ goto_captured_tree = block
 goto_captured : run (written goto_captured_function 0 (2 ∷ []) ∷ []) (2 ∷ []) goto_captured_tree 100000 100000 ≡ Answers (value.Int (pos 221) ∷ []) 84 400 []
 unfolding computing
 goto_captured = refl
+
+-- local n = 0 repeat local j = n do local k = 5 n = n + 1 goto next end ::next:: until j == 1 return n
+-- The jump leaves the locals of the inner block, and the test still sees those of the body.
+abbrev goto_before_until_tree : Tree
+goto_before_until_tree = block
+    (local 0 ("n" ∷ []) (int 0 ∷ [])
+    ∷ Repeat 0 1
+    (block
+    (local 1 ("j" ∷ []) (name 0 "n" ∷ [])
+    ∷ Do 0 1
+    (block
+    (local 2 ("k" ∷ []) (int 5 ∷ [])
+    ∷ assign (name 0 "n" ∷ []) (binary bin.Add (name 0 "n") (int 1) ∷ [])
+    ∷ goto "next" ∷ []))
+    ∷ label "next" ∷ []))
+    (binary bin.Eq (name 1 "j") (int 1))
+    ∷ gives (name 0 "n" ∷ []) ∷ [])
+
+goto_before_until : run [] [] goto_before_until_tree 100 1000 ≡ Answers (value.Int (pos 2) ∷ []) 42 64 []
+unfolding computing
+goto_before_until = refl
+
+-- local n = 0 do goto a n = 1 ::a:: n = n + 10 end ::a:: n = n + 100 return n
+-- Of two labels of one name the jump means that of the innermost block.
+abbrev goto_innermost_label_tree : Tree
+goto_innermost_label_tree = block
+    (local 0 ("n" ∷ []) (int 0 ∷ [])
+    ∷ Do 0 1
+    (block
+    (goto "a"
+    ∷ assign (name 0 "n" ∷ []) (int 1 ∷ [])
+    ∷ label "a"
+    ∷ assign (name 0 "n" ∷ []) (binary bin.Add (name 0 "n") (int 10) ∷ []) ∷ []))
+    ∷ label "a"
+    ∷ assign (name 0 "n" ∷ []) (binary bin.Add (name 0 "n") (int 100) ∷ [])
+    ∷ gives (name 0 "n" ∷ []) ∷ [])
+
+goto_innermost_label : run [] [] goto_innermost_label_tree 100 1000 ≡ Answers (value.Int (pos 110) ∷ []) 20 64 []
+unfolding computing
+goto_innermost_label = refl

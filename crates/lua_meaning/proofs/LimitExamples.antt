@@ -1,5 +1,5 @@
 -- The limits of instructions, memory and calls. Before each example stands its text.
-use Rattle.std.specs.Prelude.{◌≡◌, refl, pos, true, false, [], ◌∷◌, codes}
+use Rattle.std.specs.Prelude.{◌≡◌, refl, pos, true, false, List, [], ◌∷◌, codes}
 use Rattle.std.specs.Fmt.{digits}
 use Rattle.std.specs.Int.{int_wrap}
 use Rattle.zc_budget.specs.declared.budget.Stop.TheVariants as stop
@@ -9,7 +9,7 @@ use Rattle.lua_ast.specs.Tree.{Tree, While, If, NumFor, Const, no_case, case, ab
 use Rattle.lua_meaning.specs.declared.value.Value.TheVariants as value
 use Rattle.lua_meaning.specs.Nodes.{eval, statements, each_first, expressions, targets_of, target_of, choose, maybe_eval, step_of, each_field, all_fields}
 use Rattle.lua_meaning.specs.Programs.{jobs, resume}
-use Rattle.lua_meaning.proofs.Writing.{int, text, name, global, dot, call, binary, table, function, block, does, gives, local, local_function, assign, goto, label, written}
+use Rattle.lua_meaning.proofs.Writing.{int, text, name, global, dot, call, binary, table, function, block, does, gives, local, local_function, assign, goto, label, Written, written}
 use Rattle.lua_meaning.proofs.SampleHost.{run, Answers, Fails, Ends}
 
 -- What the examples compute with.
@@ -173,3 +173,41 @@ tostring_in_progress_tree = block
 tostring_in_progress : run (written tostring_in_progress_function_1 0 [] ∷ written tostring_in_progress_function_2 2 (0 ∷ 1 ∷ []) ∷ []) (0 ∷ 1 ∷ []) tostring_in_progress_tree 100000 100000 ≡ Fails (codes "[string \"channel program\"]:1: stack overflow") 2389 484 []
 unfolding computing
 tostring_in_progress = refl
+
+-- local function down(n) if n == 0 then coroutine.yield() return 5 end return down(n - 1) end local co = coroutine.create(down) coroutine.resume(co, 100) local function deep(n) if n == 0 then return coroutine.resume(co) end return deep(n - 1) end return deep(100)
+-- 103 calls are in progress where the coroutine is resumed, and 101 in it. Going on with it begins no call.
+abbrev down_function : List Tree → Tree
+down_function answer = function 100 ("n" ∷ []) false
+    (If 0 1
+    (case no_case (binary bin.Eq (name 1 "n") (int 0))
+    (block (does (call (dot (global "coroutine") "yield") []) ∷ gives answer ∷ [])))
+    absent
+    ∷ gives (call (name 0 "down") (binary bin.Sub (name 1 "n") (int 1) ∷ []) ∷ []) ∷ [])
+
+abbrev deep_function : Tree
+deep_function = function 101 ("n" ∷ []) false
+    (If 0 1
+    (case no_case (binary bin.Eq (name 4 "n") (int 0))
+    (block (gives (call (dot (global "coroutine") "resume") (name 2 "co" ∷ []) ∷ []) ∷ [])))
+    absent
+    ∷ gives (call (name 3 "deep") (binary bin.Sub (name 4 "n") (int 1) ∷ []) ∷ []) ∷ [])
+
+abbrev resumes_deep_tree : List Tree → Tree
+resumes_deep_tree answer = block
+    (local_function 0 "down" (down_function answer)
+    ∷ local 2 ("co" ∷ []) (call (dot (global "coroutine") "create") (name 0 "down" ∷ []) ∷ [])
+    ∷ does (call (dot (global "coroutine") "resume") (name 2 "co" ∷ int 100 ∷ []))
+    ∷ local_function 3 "deep" deep_function
+    ∷ gives (call (name 3 "deep") (int 100 ∷ []) ∷ []) ∷ [])
+
+abbrev resumes_deep_functions : List Tree → List Written
+resumes_deep_functions answer = written (down_function answer) 1 (0 ∷ []) ∷ written deep_function 4 (3 ∷ 2 ∷ []) ∷ []
+
+resumes_deep : run (resumes_deep_functions (int 5 ∷ [])) (0 ∷ 2 ∷ 3 ∷ []) (resumes_deep_tree (int 5 ∷ [])) 10000 1000 ≡ Answers (value.Bool true ∷ value.Int (pos 5) ∷ []) 2251 536 []
+unfolding computing
+resumes_deep = refl
+
+-- the same with `return tostring(5)` in the first function, which begins a call
+calls_when_resumed_deep : run (resumes_deep_functions (call (global "tostring") (int 5 ∷ []) ∷ [])) (0 ∷ 2 ∷ 3 ∷ []) (resumes_deep_tree (call (global "tostring") (int 5 ∷ []) ∷ [])) 10000 1000 ≡ Answers (value.Bool false ∷ value.Text (codes "[string \"channel program\"]:1: stack overflow") ∷ []) 2254 604 []
+unfolding computing
+calls_when_resumed_deep = refl

@@ -6,11 +6,11 @@ use Rattle.zc_budget.specs.declared.budget.Stop.TheVariants as stop
 use Rattle.lua_ast.specs.declared.node.Literal.TheVariants as literal
 use Rattle.lua_ast.specs.declared.node.BinOp.TheVariants as bin
 use Rattle.lua_ast.specs.declared.node.UnOp.TheVariants as un
-use Rattle.lua_ast.specs.Tree.{Tree, While, Repeat, If, NumFor, GenFor, Break, Const, Index, Unary, no_case, case, absent, present, no_field, item, named}
+use Rattle.lua_ast.specs.Tree.{Tree, While, Repeat, If, NumFor, GenFor, Break, Const, Index, Call, Unary, no_case, case, absent, present, no_field, item, named}
 use Rattle.lua_meaning.specs.declared.value.Value.TheVariants as value
 use Rattle.lua_meaning.specs.Nodes.{eval, statements, each_first, expressions, targets_of, target_of, choose, maybe_eval, step_of, each_field, all_fields}
 use Rattle.lua_meaning.specs.Programs.{jobs, resume}
-use Rattle.lua_meaning.proofs.Writing.{parts, int, text, name, global, call, binary, table, function, block, gives, local, local_function, assign, written}
+use Rattle.lua_meaning.proofs.Writing.{parts, int, text, name, global, dot, call, binary, table, function, block, gives, local, local_function, assign, written}
 use Rattle.lua_meaning.proofs.SampleHost.{run, Answers, Fails, Ends}
 
 -- What the examples compute with.
@@ -289,3 +289,53 @@ step_of_zero_tree = block (NumFor 0 1 (codes "i") (int 1) (int 0) (present (int 
 step_of_zero : run [] [] step_of_zero_tree 20 100 ≡ Ends stop.Instructions 20 64 []
 unfolding computing
 step_of_zero = refl
+
+-- for i = "x",
+-- zfs.sync.snapshot("rpool/a@s") do end
+-- What is no number is told after all three values are there, with the line of the loop.
+abbrev num_for_has_all_values_first_tree : Tree
+num_for_has_all_values_first_tree = block
+    (NumFor 0 1 (codes "i") (text "x")
+    (Call 0 2 (dot (dot (global "zfs") "sync") "snapshot") (parts (text "rpool/a@s" ∷ [])))
+    absent (block []) ∷ [])
+
+num_for_has_all_values_first : run [] [] num_for_has_all_values_first_tree 100 1000 ≡ Fails (codes "[string \"channel program\"]:1: for value is not a number") 11 143 ((codes "rpool/a@s") ∷ [])
+unfolding computing
+num_for_has_all_values_first = refl
+
+-- local n = 0 for i = -9223372036854775807, -9223372036854775807 - 1, -1 do n = n + 1 end return n
+abbrev num_for_down_to_the_least_tree : Tree
+num_for_down_to_the_least_tree = block
+    (local 0 ("n" ∷ []) (int 0 ∷ [])
+    ∷ NumFor 1 1 (codes "i") (Unary 0 1 un.Neg (int 9223372036854775807))
+    (binary bin.Sub (Unary 0 1 un.Neg (int 9223372036854775807)) (int 1))
+    (present (Unary 0 1 un.Neg (int 1)))
+    (block (assign (name 0 "n" ∷ []) (binary bin.Add (name 0 "n") (int 1) ∷ []) ∷ []))
+    ∷ gives (name 0 "n" ∷ []) ∷ [])
+
+num_for_down_to_the_least : run [] [] num_for_down_to_the_least_tree 100 1000 ≡ Answers (value.Int (pos 2) ∷ []) 28 64 []
+unfolding computing
+num_for_down_to_the_least = refl
+
+-- local function up(n, i) if i < n then return i + 1 end end local s = 0 for i in up, 3, 0 do i = i * 10 s = s + i end return s
+-- An assignment to the variable of a turn doesn't change what the function is called with next.
+abbrev gen_for_changed_function : Tree
+gen_for_changed_function = function 100 ("n" ∷ "i" ∷ []) false
+    (If 0 1
+    (case no_case (binary bin.Less (name 2 "i") (name 1 "n"))
+    (block (gives (binary bin.Add (name 2 "i") (int 1) ∷ []) ∷ [])))
+    absent ∷ [])
+
+abbrev gen_for_changed_tree : Tree
+gen_for_changed_tree = block
+    (local_function 0 "up" gen_for_changed_function
+    ∷ local 3 ("s" ∷ []) (int 0 ∷ [])
+    ∷ GenFor 4 1 (codes "i" ∷ []) (parts (name 0 "up" ∷ int 3 ∷ int 0 ∷ []))
+    (block
+    (assign (name 4 "i" ∷ []) (binary bin.Mul (name 4 "i") (int 10) ∷ [])
+    ∷ assign (name 3 "s" ∷ []) (binary bin.Add (name 3 "s") (name 4 "i") ∷ []) ∷ []))
+    ∷ gives (name 3 "s" ∷ []) ∷ [])
+
+gen_for_changed : run (written gen_for_changed_function 1 [] ∷ []) [] gen_for_changed_tree 100 1000 ≡ Answers (value.Int (pos 60) ∷ []) 83 112 []
+unfolding computing
+gen_for_changed = refl

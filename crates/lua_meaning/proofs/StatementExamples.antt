@@ -5,7 +5,7 @@ use Rattle.std.specs.Int.{int_wrap}
 use Rattle.zc_budget.specs.declared.budget.Stop.TheVariants as stop
 use Rattle.lua_ast.specs.declared.node.Literal.TheVariants as literal
 use Rattle.lua_ast.specs.declared.node.BinOp.TheVariants as bin
-use Rattle.lua_ast.specs.Tree.{Tree, Do, If, NumFor, Const, Index, no_case, case, absent, present, no_field}
+use Rattle.lua_ast.specs.Tree.{Tree, Do, If, NumFor, Const, Name, Index, no_case, case, absent, present, no_field}
 use Rattle.lua_meaning.specs.declared.value.Value.TheVariants as value
 use Rattle.lua_meaning.specs.Nodes.{eval, statements, each_first, expressions, targets_of, target_of, choose, maybe_eval, step_of, each_field, all_fields}
 use Rattle.lua_meaning.specs.Programs.{jobs, resume}
@@ -168,3 +168,53 @@ local_is_made_before_its_function_tree = block (local_function 0 "f" local_is_ma
 local_is_made_before_its_function : run (written local_is_made_before_its_function_function 0 (0 ∷ []) ∷ []) (0 ∷ []) local_is_made_before_its_function_tree 100 151 ≡ Ends stop.Memory 3 88 []
 unfolding computing
 local_is_made_before_its_function = refl
+
+-- local a a, a = 1, 2 return a
+-- The stores go from left to right, so the last one counts.
+abbrev last_store_counts_tree : Tree
+last_store_counts_tree = block
+    (local 0 ("a" ∷ []) []
+    ∷ assign (name 0 "a" ∷ name 0 "a" ∷ []) (int 1 ∷ int 2 ∷ [])
+    ∷ gives (name 0 "a" ∷ []) ∷ [])
+
+last_store_counts : run [] [] last_store_counts_tree 100 1000 ≡ Answers (value.Int (pos 2) ∷ []) 9 64 []
+unfolding computing
+last_store_counts = refl
+
+-- t.x = zfs.sync.snapshot("rpool/a@s")
+-- What can't be indexed is told when it is stored to, after the expressions.
+abbrev fails_when_it_stores_tree : Tree
+fails_when_it_stores_tree = block
+    (assign (dot (global "t") "x" ∷ []) (call (dot (dot (global "zfs") "sync") "snapshot") (text "rpool/a@s" ∷ []) ∷ []) ∷ [])
+
+fails_when_it_stores : run [] [] fails_when_it_stores_tree 100 1000 ≡ Fails (codes "[string \"channel program\"]:1: attempt to index a nil value") 13 146 ((codes "rpool/a@s") ∷ [])
+unfolding computing
+fails_when_it_stores = refl
+
+-- x,
+-- a.b = 1, 2
+-- A failing store has the line of its assignment, and the stores before it are done.
+abbrev store_has_the_line_of_its_assignment_tree : Tree
+store_has_the_line_of_its_assignment_tree = block
+    (assign (global "x" ∷ Index 0 2 (Name 0 2 (codes "a")) (text "b") ∷ []) (int 1 ∷ int 2 ∷ []) ∷ [])
+
+store_has_the_line_of_its_assignment : run [] [] store_has_the_line_of_its_assignment_tree 100 1000 ≡ Fails (codes "[string \"channel program\"]:1: attempt to index a nil value") 8 194 []
+unfolding computing
+store_has_the_line_of_its_assignment = refl
+
+-- local function f(s) zfs.sync.snapshot(s) return {} end f("rpool/a@1").x, f("rpool/a@2").y = f("rpool/a@3"), f("rpool/a@4")
+-- All targets are prepared before the first expression is evaluated.
+abbrev targets_come_first_function : Tree
+targets_come_first_function = function 100 ("s" ∷ []) false
+    (does (call (dot (dot (global "zfs") "sync") "snapshot") (name 1 "s" ∷ [])) ∷ gives (table no_field ∷ []) ∷ [])
+
+abbrev targets_come_first_tree : Tree
+targets_come_first_tree = block
+    (local_function 0 "f" targets_come_first_function
+    ∷ assign
+    (dot (call (name 0 "f") (text "rpool/a@1" ∷ [])) "x" ∷ dot (call (name 0 "f") (text "rpool/a@2" ∷ [])) "y" ∷ [])
+    (call (name 0 "f") (text "rpool/a@3" ∷ []) ∷ call (name 0 "f") (text "rpool/a@4" ∷ []) ∷ []) ∷ [])
+
+targets_come_first : run (written targets_come_first_function 1 [] ∷ []) [] targets_come_first_tree 100 1000 ≡ Answers [] 68 464 ((codes "rpool/a@1") ∷ (codes "rpool/a@2") ∷ (codes "rpool/a@3") ∷ (codes "rpool/a@4") ∷ [])
+unfolding computing
+targets_come_first = refl

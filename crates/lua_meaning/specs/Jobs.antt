@@ -1,4 +1,4 @@
--- What is given as fuel and lowered by one: the calls, the further steps of an index, the turns of loops and the jumps to labels. Each stands after an instruction.
+-- What lowers the fuel by one: calls, further steps of an index, turns of loops and jumps to labels. Each stands after an instruction.
 use Rattle.std.specs.Prelude.{ℕ, ℤ, Bool, List}
 use Rattle.lua_ast.specs.Tree.{Tree, Trees}
 use Rattle.lua_meaning.specs.declared.builtin.Builtin.{Builtin as BuiltinOf}

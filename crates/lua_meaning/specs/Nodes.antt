@@ -1,5 +1,5 @@
 -- The meaning of each node, where the meaning of jobs is given (Lua 5.2 manual, 3.3 and 3.4). A node answers a list of values. What a statement answers is not looked at.
--- This project's own: the evaluation of a node is one instruction, its parts go from left to right, and a call in a `return` is a call as any other.
+-- This project's own: the evaluation of a node is one instruction, its parts and the stores of an assignment go from left to right, and a call in a `return` is a call as any other.
 use Rattle.std.specs.Prelude.{ℕ, ◌+◌, ℤ, pos, int_lt, Bool, not, List, [], ◌∷◌, ◌++◌, length, drop, if◌then◌else◌, codes, Option, Some, None}
 use Rattle.lua_ast.specs.declared.node.LogicOp.{LogicOp}
 use Rattle.lua_ast.specs.declared.node.LogicOp.TheVariants as logic_op
