@@ -1,5 +1,5 @@
 -- Each step keeps the rule.
-use Rattle.std.proofs.Common.{◌≡◌, ◌≢◌, ℕ, zero, suc, ◌+◌, ◌%◌, ◌^◌, ◌<◌, ◌≤◌, Some, List, [], ◌∷◌, ◌++◌, length, get_or, set, refl, ap, sym, ◌∙◌, subst, inl, inr, ⊎_elim, arith, length-append, append_assoc}
+use Rattle.std.proofs.Common.{◌≡◌, ◌≢◌, ℕ, zero, suc, ◌+◌, ◌%◌, ◌^◌, ◌<◌, ◌≤◌, Some, List, [], ◌∷◌, ◌++◌, length, get_or, set, refl, ap, sym, ◌∙◌, subst, inl, inr, ⊎_elim, arith, append_assoc}
 use mathlib.Core.Option.{Option, some, none, some-injective, some-ne-none}
 use mathlib.Core.Logic.{dite}
 use native.Mathlib.Decide.{ℕ_discrete}
@@ -335,13 +335,12 @@ module _ {T O E : Type 0} (stands : T → O → List E → Type 0) (maker : E �
         (refl, refl),
       )
 
-  pub counts : (slots id : ℕ) (m : Seat) → Allows Rule slots id m 0 (λ n. n) (LookedAtCount (step slots 0 0 0 none) m)
+  pub counts : (slots id : ℕ) (m : Seat) → Allows Rule slots id m 0 (λ n. n) (LookedAtCount maker (step slots 0 0 0 none) m)
   counts slots id m s r _ at _ =
       let old : ((j : ℕ) (v : View O E) → get_elem? s.views j ≡ some v → ViewFits maker origin r.hand r.served r.drawn v) = r.fits in
       let mine = old id m.0 at in
       let word : (get_or s.words 0 0) ≡ length r.hand = ap (λ (ws : List ℕ). get_or ws 0 0) r.words in
-      let longer : length r.hand ≡ length mine.seen.0 + length m.0.list = ap length mine.seen.1 ∙ length-append mine.seen.0 m.0.list in
-      (m.0, keeps, tt, unmoved s r 0 id m at, (refl, omega arith))
+      (m.0, keeps, tt, unmoved s r 0 id m at, (refl, (r.hand, mine.seen, word)))
 
   pub exchanged_raises : (slots id new t : ℕ) (p m : Seat) (x y : Stored T E) (v : T) (list later : List E) (from : O) → m ≡ (p.0, (0, x) ∷ Rattle.atomic_table.specs.Table.rest p.1) → p.1 ≡ (0, y) ∷ [] → p.0.stage ≡ Holding t
       → x.value ≡ Some v → x.list.value ≡ list

@@ -13,7 +13,7 @@
 -- | look back | 0, load | nothing but that the join is over |
 --
 -- `exchange` moves the value out of the slot and in again while the seat has it.
-use Rattle.std.specs.Prelude.{◌≡◌, ℕ, ◌+◌, ◌%◌, ◌^◌, ◌≤◌, Some, None, List, [], ◌∷◌, ◌++◌, length}
+use Rattle.std.specs.Prelude.{◌≡◌, ℕ, ◌+◌, ◌%◌, ◌^◌, Some, None, List, [], ◌∷◌, ◌++◌, length}
 use Rattle.atomic_table.specs.Table.{Me, Step}
 use Rattle.turn_lock.specs.declared.view.View.{View}
 use Rattle.turn_lock.specs.declared.view.Stored.{Stored}
@@ -87,8 +87,9 @@ module _ {T O E : Type 0} where
   abbrev pub ServedNext : Step (Stored T E) → Sat T O E → ℕ → Sat T O E → Type 0
   ServedNext st m r m' = (m'.1 ≡ m.1) × (m'.0 ≡ staged m.0 Idle)
 
-  abbrev pub LookedAtCount : Step (Stored T E) → Sat T O E → ℕ → Sat T O E → Type 0
-  LookedAtCount st m r m' = (m' ≡ m) × (length m.0.list ≤ r)
+  -- the count is the length of a list that begins with what was seen, and goes on by entries of others
+  abbrev pub LookedAtCount : (E → ℕ) → Step (Stored T E) → Sat T O E → ℕ → Sat T O E → Type 0
+  LookedAtCount maker st m r m' = (m' ≡ m) × ((list : List E) × GoesOnByOthers maker m.0.numbers m.0.list list × (r ≡ length list))
 
   abbrev pub BroughtNumber : Step (Stored T E) → Sat T O E → ℕ → Sat T O E → Type 0
   BroughtNumber st m r m' = (m'.1 ≡ m.1) × (m'.0 ≡ with_numbers m.0 (st.first ∷ without_first st.first m.0.numbers))

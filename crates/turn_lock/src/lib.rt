@@ -3,7 +3,7 @@
 //! The value under the lock stands for a list of entries. Each seat has numbers of its own, and
 //! entries have makers with such numbers. Who takes the value has one that stands for a list which
 //! begins with all that its seat has seen, and in which no one else made an entry under the seat's
-//! numbers. Turns come in the order of tickets.
+//! numbers.
 #![tactic(auto)]
 
 mod lock;

@@ -1,5 +1,5 @@
 //! The lock, and its turns.
-ghost use Rattle.std.specs.Prelude.{◌≡◌, ◌+◌, ◌≤◌, true, false, length};
+ghost use Rattle.std.specs.Prelude.{◌≡◌, ◌+◌, List, true, false, length};
 ghost use Rattle.turn_lock.specs.Entries.{GoesOnByOthers, GoesOnByOwn};
 
 use crate::Recorded;
@@ -103,8 +103,8 @@ impl<T: Recorded + Drop> TurnLock<T> {
     pub fn count(&self, seat: &mut SeatOf<T>) -> u64
         requires own { seat.old.lock ≡ self.now.id }
         ensures same { seat.new ≡ seat.old }
-        ensures count { length seat.old.seen ≤ result }
+        ensures count { (list : List T.Entry) × GoesOnByOthers T.maker seat.old.numbers seat.old.seen list × (result ≡ length list) }
     {
-        self.table.shared.load::<Count>(&mut seat.place, 0)
+        self.table.shared.load::<Count<T>>(&mut seat.place, 0)
     }
 }

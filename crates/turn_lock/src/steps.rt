@@ -30,10 +30,10 @@ impl<T, O, E> Play<Stored<T, E>, View<O, E>> for Serve {
     ghost then = { ServedNext };
 }
 
-pub(crate) struct Count;
+pub(crate) struct Count<T>(PhantomData<T>);
 
-impl<T, O, E> Play<Stored<T, E>, View<O, E>> for Count {
-    ghost then = { LookedAtCount };
+impl<T: Recorded> Play<Stored<T, T::Entry>, View<T::Origin, T::Entry>> for Count<T> {
+    ghost then = { LookedAtCount T.maker };
 }
 
 pub(crate) struct Bring;
