@@ -89,8 +89,8 @@ fn put_node(alloc: Global, out: &mut Vec<u8>, parsed: &Parsed, id: NodeId) -> Re
     put(out, "; ")
 }
 
-/// How many nodes and variables a text has, which variables are captured, and what its nodes mean, in their order: names
-/// in text order, and each node that declares variables behind its parts.
+/// How many variables a text has, which of them are captured, and what its nodes mean, in their order: names in text
+/// order, and each node that declares variables behind its parts.
 pub(crate) fn put_program(
     alloc: Global,
     out: &mut Vec<u8>,
