@@ -43,3 +43,8 @@ pub record IsLimit (greatest n : ℕ) : Type 0 where
 pub record IsWithin (u : Used) : Type 0 where
   pub instructions : u.instructions ≤ u.most_instructions
   pub bytes : u.bytes ≤ u.most_bytes
+
+-- the limits are no greater than the greatest
+pub record HasLimits (u : Used) : Type 0 where
+  pub instructions : u.most_instructions ≤ greatest_instructions
+  pub bytes : u.most_bytes ≤ greatest_bytes

@@ -1,7 +1,7 @@
 //! What a program has used of its limits.
 
 ghost use Rattle.std.specs.Prelude.{◌≡◌, ◌≤◌, true, false, OnOk, OnErr, IfErr};
-ghost use Rattle.zc_budget.specs.Used.{Used, IsLimit, IsWithin, greatest_instructions, greatest_bytes, unused, is_spent, ticked, is_over, charged};
+ghost use Rattle.zc_budget.specs.Used.{Used, IsLimit, IsWithin, HasLimits, greatest_instructions, greatest_bytes, unused, is_spent, ticked, is_over, charged};
 ghost use Rattle.zc_budget.specs.declared.budget.Stop.TheVariants as stop;
 
 use std::marker::Model;
@@ -93,6 +93,7 @@ impl Budget {
         ensures instructions { result.0 ≡ self.now.instructions }
         ensures bytes { result.1 ≡ self.now.bytes }
         ensures within { IsWithin self.now }
+        ensures limits { HasLimits self.now }
     {
         (self.instructions, self.bytes)
     }

@@ -18,6 +18,13 @@ names_of_command (command.Unmount name) = name ∷ []
 names_of_command (command.Stamp name value) = name ∷ []
 names_of_command (command.Rollback name) = name ∷ []
 names_of_command (command.RenameSnapshot name old new) = name ∷ []
+names_of_command (command.Destroy name defer) = name ∷ []
+names_of_command (command.Promote name) = name ∷ []
+names_of_command (command.Rename name to) = name ∷ to ∷ []
+names_of_command (command.Set name property value) = name ∷ []
+names_of_command (command.Inherit name property) = name ∷ []
+names_of_command (command.Hold name tag) = name ∷ []
+names_of_command (command.Release name tag) = name ∷ []
 
 abbrev pub names_of_query : Query → List (List ℕ)
 names_of_query (query.Exists name) = name ∷ []

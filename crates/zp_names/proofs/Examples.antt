@@ -6,6 +6,7 @@ use Rattle.zp_names.specs.declared.form.Form.TheVariants as form
 use Rattle.zp_names.specs.Names.{is_valid_name, is_valid_short, head_of, short_of}
 use Rattle.zp_names.specs.NameFaults.{name_fault}
 use Rattle.zp_names.specs.NameParts.{form_of, pool_of, parent_of, is_below}
+use Rattle.zp_names.specs.NameMoves.{is_at_or_below, name_after, outgrows}
 
 valid : is_valid_name (codes "a/b c.d@1") ≡ true
 unfolding is_valid_name is_valid_short
@@ -51,3 +52,12 @@ parents = (refl, refl, refl)
 
 below : (is_below (codes "a/b") (codes "a") ≡ true) × (is_below (codes "ab") (codes "a") ≡ false)
 below = (refl, refl)
+
+at_or_below : (is_at_or_below (codes "a/b") (codes "a") ≡ true) × (is_at_or_below (codes "a") (codes "a") ≡ true) × (is_at_or_below (codes "ab") (codes "a") ≡ false)
+at_or_below = (refl, refl, refl)
+
+after_renames : (name_after (codes "r/a") (codes "r/long") (codes "r/a/b") ≡ codes "r/long/b") × (name_after (codes "r/a") (codes "r/c") (codes "r/ab") ≡ codes "r/ab")
+after_renames = (refl, refl)
+
+outgrown : (outgrows (codes "r/a") (codes "r/ab") (codes "r/a/c") 250 ≡ true) × (outgrows (codes "r/a") (codes "r/ab") (codes "r/a/c") 249 ≡ false) × (outgrows (codes "r/a") (codes "r/ab") (codes "r/b") 300 ≡ false)
+outgrown = (refl, refl, refl)

@@ -13,14 +13,14 @@ use Rattle.zp_names.proofs.ByteKinds.{mark_no_letter}
 use Rattle.zp_names.proofs.Marks.{head_of-other, is_head-head_of, head_of-head, is_head-front}
 
 -- what a valid name is, fact by fact
-record IsName (t : List ℕ) : Type 0 where
-  letter : begins_with_letter t ≡ true
-  parts : list_all is_part (parts_of t) ≡ true
-  short : (is_head t || is_valid_short (short_of t)) ≡ true
-  size : length t ≤ 255
-  depth : length (parts_of t) ≤ 50
+pub record IsName (t : List ℕ) : Type 0 where
+  pub letter : begins_with_letter t ≡ true
+  pub parts : list_all is_part (parts_of t) ≡ true
+  pub short : (is_head t || is_valid_short (short_of t)) ≡ true
+  pub size : length t ≤ 255
+  pub depth : length (parts_of t) ≤ 50
 
-from_valid : (t : List ℕ) → is_valid_name t ≡ true → IsName t
+pub from_valid : (t : List ℕ) → is_valid_name t ≡ true → IsName t
 unfolding is_valid_name
 from_valid t e =
     let depth = and_parts (begins_with_letter t && is_joined t && nat_le (length t) 255) (nat_le (length (parts_of t)) 50) e in
@@ -29,9 +29,17 @@ from_valid t e =
     let parts = and_parts (list_all is_part (parts_of t)) (is_head t || is_valid_short (short_of t)) joined.1 in
     record { letter = joined.0; parts = parts.0; short = parts.1; size = leb-true _ _ size.1; depth = leb-true _ _ depth.1 }
 
-to_valid : (t : List ℕ) → IsName t → is_valid_name t ≡ true
+pub to_valid : (t : List ℕ) → IsName t → is_valid_name t ≡ true
 unfolding is_valid_name
 to_valid t n = and_from _ _ (and_from _ _ (and_from _ _ n.letter (and_from _ _ n.parts n.short)) (le-leb _ _ n.size)) (le-leb _ _ n.depth)
+
+-- a valid name has at most 255 bytes
+pub valid_size : (t : List ℕ) → is_valid_name t ≡ true → length t ≤ 255
+valid_size t e = (from_valid t e).size
+
+-- and at most 50 parts
+pub valid_depth : (t : List ℕ) → is_valid_name t ≡ true → length (parts_of t) ≤ 50
+valid_depth t e = (from_valid t e).depth
 
 -- what stands behind the mark of a valid name is a valid short name
 pub short_valid : (t : List ℕ) → is_valid_name t ≡ true → (is_head t || is_valid_short (short_of t)) ≡ true
@@ -70,7 +78,7 @@ onto_first-append b [] qs h = absurd (omega arith)
 onto_first-append b (p ∷ ps) qs h = refl
 
 -- a slash stands between the parts before it and those behind it
-slice_split-append : (xs ys : List ℕ) → slice_split is_slash (xs ++ 47 ∷ ys) ≡ slice_split is_slash xs ++ slice_split is_slash ys
+pub slice_split-append : (xs ys : List ℕ) → slice_split is_slash (xs ++ 47 ∷ ys) ≡ slice_split is_slash xs ++ slice_split is_slash ys
 slice_split-append [] ys = refl
 slice_split-append (x ∷ xs) ys = elim (cases_Bool (is_slash x)) [
   | inl s ↦ slice_split-cons_yes is_slash x (xs ++ 47 ∷ ys) s ∙ ap (λ ps. [] ∷ ps) (slice_split-append xs ys) ∙ ap (λ ps. ps ++ slice_split is_slash ys) (sym (slice_split-cons_yes is_slash x xs s))

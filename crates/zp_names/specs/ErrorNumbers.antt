@@ -20,3 +20,19 @@ einval = 22
 -- a limit would be passed
 abbrev pub enospc : ℕ
 enospc = 28
+
+-- a name would be too long, or too deep
+abbrev pub enametoolong : ℕ
+enametoolong = 36
+
+-- no such reference
+abbrev pub esrch : ℕ
+esrch = 3
+
+-- a value is too long
+abbrev pub e2big : ℕ
+e2big = 7
+
+-- the dataset can't be written
+abbrev pub erofs : ℕ
+erofs = 30

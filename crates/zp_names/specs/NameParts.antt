@@ -1,5 +1,5 @@
 -- What a name is made of.
-use Rattle.std.specs.Prelude.{ℕ, ◌==◌, ◌&&◌, Bool, true, false, nat_eq, not, if◌then◌else◌, List, [], ◌∷◌, ◌++◌, Option, Some, None, find}
+use Rattle.std.specs.Prelude.{ℕ, ◌==◌, ◌&&◌, Bool, true, false, nat_eq, nat_le, not, if◌then◌else◌, List, [], ◌∷◌, ◌++◌, length, Option, Some, None, find}
 use Rattle.std.specs.List.{before_first, before_last, list_any, starts_with}
 use Rattle.zp_names.specs.declared.form.Form.{Form}
 use Rattle.zp_names.specs.declared.form.Form.TheVariants as form
@@ -27,11 +27,19 @@ is_snapshot_name t = is_snapshot_form (form_of t)
 abbrev pub snapshot_name : List ℕ → List ℕ → List ℕ
 snapshot_name head short = head ++ (64 ∷ short)
 
+-- the full name of a dataset's bookmark
+abbrev pub bookmark_name : List ℕ → List ℕ → List ℕ
+bookmark_name head short = head ++ (35 ∷ short)
+
+-- the text, where it is no longer than a name may be: 255 bytes
+abbrev pub within_name : List ℕ → Option (List ℕ)
+within_name t = if nat_le (length t) 255 then Some t else None
+
 -- a name of this form, from its head and its short name
 abbrev pub written : Form → List ℕ → List ℕ → List ℕ
 written form.Head head short = head
 written form.Snap head short = snapshot_name head short
-written form.Bookmark head short = head ++ (35 ∷ short)
+written form.Bookmark head short = bookmark_name head short
 
 -- the first part: the pool
 abbrev pub pool_of : List ℕ → List ℕ

@@ -10,21 +10,77 @@ use zc_io::NoMemory;
 #[derive(Debug, Drop)]
 pub enum Command {
     /// Make a filesystem of this name: zfs-create(8).
-    Create { name: Name },
+    Create {
+        name: Name,
+    },
     /// Take a snapshot of this name: zfs-snapshot(8).
-    Snapshot { name: Name },
+    Snapshot {
+        name: Name,
+    },
     /// Make a clone of this name from a snapshot: zfs-clone(8).
-    Clone { source: Name, name: Name },
+    Clone {
+        source: Name,
+        name: Name,
+    },
     /// Mount this dataset: zfs-mount(8). Only a flag is set.
-    Mount { name: Name },
+    Mount {
+        name: Name,
+    },
     /// Unmount this dataset: zfs-unmount(8). Only a flag is taken away.
-    Unmount { name: Name },
+    Unmount {
+        name: Name,
+    },
     /// Write a number that stands for the content of this dataset.
-    Stamp { name: Name, value: u64 },
+    Stamp {
+        name: Name,
+        value: u64,
+    },
     /// Take this dataset back to its latest snapshot: zfs-rollback(8).
-    Rollback { name: Name },
+    Rollback {
+        name: Name,
+    },
     /// Rename a snapshot of this dataset, from one short name to another: zfs-rename(8).
-    RenameSnapshot { name: Name, old: Bytes, new: Bytes },
+    RenameSnapshot {
+        name: Name,
+        old: Bytes,
+        new: Bytes,
+    },
+    /// Destroy the dataset, the snapshot or the bookmark of this name: zfs-destroy(8). With `defer` (`-d`) a snapshot that
+    /// has user references or clones is marked, and goes with the last of them.
+    Destroy {
+        name: Name,
+        defer: bool,
+    },
+    /// Make this clone the owner of the snapshots up to its origin: zfs-promote(8).
+    Promote {
+        name: Name,
+    },
+    /// Rename this dataset, and with it all that is below it: zfs-rename(8).
+    Rename {
+        name: Name,
+        to: Name,
+    },
+    /// Set a property of this dataset to the value that a text is: zfs-set(8).
+    Set {
+        name: Name,
+        prop: Bytes,
+        value: Bytes,
+    },
+    /// Take the setting of a property away from this dataset: zfs-inherit(8).
+    Inherit {
+        name: Name,
+        prop: Bytes,
+    },
+    /// Place a user reference with this tag on this snapshot: zfs-hold(8).
+    Hold {
+        name: Name,
+        tag: Bytes,
+    },
+    /// Take the user reference with this tag off this snapshot: zfs-release(8).
+    Release {
+        name: Name,
+        tag: Bytes,
+    },
 }
 
 /// A question, which changes nothing.
@@ -67,6 +123,34 @@ impl Command {
                 name: name.copy(alloc)?,
                 old: old.copy(alloc)?,
                 new: new.copy(alloc)?,
+            }),
+            Command::Destroy { name, defer } => Ok(Command::Destroy {
+                name: name.copy(alloc)?,
+                defer: *defer,
+            }),
+            Command::Promote { name } => Ok(Command::Promote {
+                name: name.copy(alloc)?,
+            }),
+            Command::Rename { name, to } => Ok(Command::Rename {
+                name: name.copy(alloc)?,
+                to: to.copy(alloc)?,
+            }),
+            Command::Set { name, prop, value } => Ok(Command::Set {
+                name: name.copy(alloc)?,
+                prop: prop.copy(alloc)?,
+                value: value.copy(alloc)?,
+            }),
+            Command::Inherit { name, prop } => Ok(Command::Inherit {
+                name: name.copy(alloc)?,
+                prop: prop.copy(alloc)?,
+            }),
+            Command::Hold { name, tag } => Ok(Command::Hold {
+                name: name.copy(alloc)?,
+                tag: tag.copy(alloc)?,
+            }),
+            Command::Release { name, tag } => Ok(Command::Release {
+                name: name.copy(alloc)?,
+                tag: tag.copy(alloc)?,
             }),
         }
     }

@@ -6,6 +6,7 @@ mod command;
 pub mod errno;
 mod form;
 mod list_kind;
+mod moves;
 mod name;
 mod scan;
 mod sequence;

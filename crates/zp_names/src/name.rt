@@ -5,7 +5,7 @@ ghost use Rattle.std.specs.List.{before_last, list_any, starts_with};
 ghost use Rattle.std.specs.Str.{IsAscii};
 ghost use Rattle.zp_names.specs.Names.{is_slash, is_mark, is_separator, is_head, is_valid_name, is_valid_head, is_valid_short, as_name, head_of, short_of};
 ghost use Rattle.zp_names.specs.NameFaults.{name_fault, IsRefusal};
-ghost use Rattle.zp_names.specs.NameParts.{form_of, written, pool_of, is_pool, parent_of, is_below, snapshot_name};
+ghost use Rattle.zp_names.specs.NameParts.{form_of, written, pool_of, is_pool, parent_of, is_below, snapshot_name, bookmark_name};
 
 use crate::scan::{is_separator, name_fault, place_of_mark, place_of_separator};
 use crate::{BadName, Form};
@@ -162,8 +162,22 @@ impl Name {
     pub fn snapshot_name(&self, alloc: Global, short: &[u8]) -> Result<Option<Name>, NoMemory>
         ensures { IfOk result (λ name. name ≡ as_name (snapshot_name self.now short.now)) }
     {
+        self.joined(alloc, b'@', short)
+    }
+
+    /// The name of the bookmark of this dataset that has this short name. `None` where that text is no valid name.
+    pub fn bookmark_name(&self, alloc: Global, short: &[u8]) -> Result<Option<Name>, NoMemory>
+        ensures { IfOk result (λ name. name ≡ as_name (bookmark_name self.now short.now)) }
+    {
+        self.joined(alloc, b'#', short)
+    }
+
+    /// This name, a mark and a short name together. `None` where that text is no valid name.
+    fn joined(&self, alloc: Global, mark: u8, short: &[u8]) -> Result<Option<Name>, NoMemory>
+        ensures { IfOk result (λ name. name ≡ as_name (self.now ++ mark ∷ short.now)) }
+    {
         let mut text = Vec::from_slice(alloc, self.text.as_bytes())?;
-        text.push(b'@')?;
+        text.push(mark)?;
         text.extend_from_slice(short)?;
         match Name::read(alloc, text.as_slice()) {
             Ok(name) => Ok(Some(name)),
@@ -194,15 +208,23 @@ impl Name {
     }
 }
 
+/// The name of a dataset that this valid text is.
+pub(crate) fn name_of_text(text: String) -> Name
+    requires { IsTrue (is_valid_head (string_bytes text)) }
+    ensures { result ≡ string_bytes text }
+{
+    Name {
+        mark: text.as_str().len(),
+        text,
+    }
+}
+
 /// The name that a dataset's valid name is.
 fn name_of_head(alloc: Global, text: &str) -> Result<Name, NoMemory>
     requires { IsTrue (is_valid_head text.now) }
     ensures { IfOk result (λ name. name ≡ text.now) }
 {
-    Ok(Name {
-        text: String::from_str(alloc, text)?,
-        mark: text.len(),
-    })
+    Ok(name_of_text(String::from_str(alloc, text)?))
 }
 
 fn has_separator(text: &[u8]) -> bool
@@ -227,7 +249,7 @@ fn front(text: &str, end: usize) -> &str
 }
 
 /// The bytes of such a text from a place on.
-fn back(text: &str, start: usize) -> &str
+pub(crate) fn back(text: &str, start: usize) -> &str
     requires ascii { IsAscii text.now }
     requires within { start ≤ length text.now }
     ensures { result.now ≡ drop start text.now }

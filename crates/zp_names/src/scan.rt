@@ -7,9 +7,11 @@ ghost use Rattle.zp_names.specs.NameFaults.{is_bad_byte, fault_of, first_fault, 
 
 use crate::BadName;
 
-const LONGEST_NAME: usize = 255;
+/// The most bytes of a name.
+pub(crate) const LONGEST_NAME: usize = 255;
 
-const MOST_PARTS: usize = 50;
+/// The most parts of a name.
+pub(crate) const MOST_PARTS: usize = 50;
 
 /// Whether a byte is one of the two marks.
 fn is_mark(byte: u8) -> bool
@@ -125,7 +127,7 @@ fn first_fault(text: &[u8]) -> Option<BadName>
 }
 
 /// How many parts a text has before its first mark.
-fn count_of_parts(text: &[u8]) -> usize
+pub(crate) fn count_of_parts(text: &[u8]) -> usize
     requires { length text.now ≤ 255 }
     ensures { result ≡ length (parts_of text.now) }
 {

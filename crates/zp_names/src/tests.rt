@@ -104,23 +104,34 @@ fn parts_of_names(rt: HostRuntime) -> Result<(), Fail> {
     Ok(())
 }
 
+/// A rename of a snapshot.
+fn renaming(alloc: Global) -> Result<Command, Fail> {
+    let name = Name::read(alloc, b"tank/a")?;
+    let old = Bytes::from_bytes(alloc, b"x")?;
+    let new = Bytes::from_bytes(alloc, b"y")?;
+    Ok(Command::RenameSnapshot { name, old, new })
+}
+
+/// Whether it is that rename.
+fn is_renaming(command: &Command) -> bool {
+    match command {
+        Command::RenameSnapshot { name, old, new } => {
+            name.text() == "tank/a"
+                && old.as_slice() == b"x".as_slice()
+                && new.as_slice() == b"y".as_slice()
+        }
+        _ => false,
+    }
+}
+
 #[test]
 fn copies_a_command(rt: HostRuntime) -> Result<(), Fail> {
     let alloc = rt.alloc();
-    let rename = Command::RenameSnapshot {
-        name: Name::read(alloc, b"tank/a")?,
-        old: Bytes::from_bytes(alloc, b"x")?,
-        new: Bytes::from_bytes(alloc, b"y")?,
-    };
-    match &rename.copy(alloc)? {
-        Command::RenameSnapshot { name, old, new } => {
-            assert_eq!(rt; name.text(), "tank/a");
-            assert!(rt; old.as_slice() == b"x".as_slice());
-            assert!(rt; new.as_slice() == b"y".as_slice());
-            Ok(())
-        }
-        _ => Err(Fail::from("another command")),
-    }
+    let copy = renaming(alloc)?.copy(alloc)?;
+    let is_same = is_renaming(&copy);
+    drop(copy);
+    assert!(rt; is_same);
+    Ok(())
 }
 
 #[test]
@@ -130,6 +141,8 @@ fn names_a_snapshot(rt: HostRuntime) -> Result<(), Fail> {
     let snapshot = name.snapshot_name(alloc, b"y")?.ok_or("no name")?;
     assert_eq!(rt; snapshot.text(), "tank/a@y");
     assert!(rt; name.snapshot_name(alloc, b"")?.is_none());
+    let bookmark = name.bookmark_name(alloc, b"y")?.ok_or("no name")?;
+    assert_eq!(rt; bookmark.text(), "tank/a#y");
     Ok(())
 }
 
@@ -147,5 +160,29 @@ fn copies_a_query_and_a_verdict(rt: HostRuntime) -> Result<(), Fail> {
     let texts = copy.details.into_vec();
     assert_eq!(rt; texts.len(), 1);
     assert!(rt; texts[0].as_slice() == b"tank/a".as_slice());
+    Ok(())
+}
+
+#[test]
+fn renames_names(rt: HostRuntime) -> Result<(), Fail> {
+    let alloc = rt.alloc();
+    let old = Name::read(alloc, b"tank/a")?;
+    let new = Name::read(alloc, b"tank/b/c")?;
+    let below = Name::read(alloc, b"tank/a/x y")?;
+    let beside = Name::read(alloc, b"tank/ab")?;
+    assert!(rt; below.is_at_or_below(&old) && old.is_at_or_below(&old));
+    assert!(rt; !beside.is_at_or_below(&old));
+    assert!(rt; !below.outgrows(&old, &new, 0));
+    assert_eq!(rt;
+        below.after_rename(alloc, &old, &new)?.text(),
+        "tank/b/c/x y"
+    );
+    assert!(rt; !old.outgrows(&old, &new, 0));
+    assert_eq!(rt; old.after_rename(alloc, &old, &new)?.text(), "tank/b/c");
+    assert!(rt; !beside.outgrows(&old, &new, 0));
+    assert_eq!(rt; beside.after_rename(alloc, &old, &new)?.text(), "tank/ab");
+    assert_eq!(rt; below.depth(), 3);
+    assert!(rt; !below.outgrows(&old, &new, 243));
+    assert!(rt; below.outgrows(&old, &new, 244));
     Ok(())
 }
