@@ -1,1 +1,5 @@
 pub mod Settings
+pub mod UserProperties
+pub mod Lines
+pub mod Properties
+pub mod ReadSetting

@@ -1,8 +1,9 @@
 //! Settings: the properties that a dataset holds itself.
 
 ghost use Rattle.std.specs.Prelude.{◌≡◌, IfOk, option_map};
-ghost use Rattle.zp_props.specs.Settings.{setting_named, volsize};
+ghost use Rattle.zp_props.specs.Settings.{setting_named, set_in_place, settings_with, settings_without, user_count, volsize};
 
+use crate::is_user_name;
 use std::alloc::Global;
 use zc_io::NoMemory;
 use zp_names::{Bytes, Sequence};
@@ -68,6 +69,16 @@ pub fn volsize(settings: &[Setting]) -> Option<&Setting>
     setting_named(settings, b"volsize")
 }
 
+/// How many of the settings are of user properties.
+pub fn user_count(settings: &[Setting]) -> usize
+    ensures { result ≡ user_count settings.now }
+{
+    settings
+        .iter()
+        .filter(|setting| is_user_name(setting.name.as_slice()))
+        .count()
+}
+
 /// The same settings once more.
 pub fn copy_settings(alloc: Global, settings: &[Setting]) -> Result<Settings, NoMemory>
     ensures { IfOk result (λ copy. copy ≡ settings.now) }
@@ -77,4 +88,50 @@ pub fn copy_settings(alloc: Global, settings: &[Setting]) -> Result<Settings, No
         copies.push(setting.copy(alloc)?)?;
     }
     Ok(Sequence::from_vec(copies))
+}
+
+/// The settings with this one: in the place of the one of its name, else last.
+pub fn settings_with(
+    alloc: Global,
+    settings: &[Setting],
+    new: Setting,
+) -> Result<Settings, NoMemory>
+    ensures { IfOk result (λ r. r ≡ settings_with new settings.now) }
+{
+    let mut changed = Vec::new(alloc);
+    for setting in settings {
+        changed.push(with_new(alloc, &new, setting)?)?;
+    }
+    if setting_named(settings, new.name.as_slice()).is_none() {
+        changed.push(new)?;
+    }
+    Ok(Sequence::from_vec(changed))
+}
+
+/// The new setting, where it has the name of the old one, else the old one.
+fn with_new(alloc: Global, new: &Setting, old: &Setting) -> Result<Setting, NoMemory>
+    ensures { IfOk result (λ s. s ≡ set_in_place new.now old.now) }
+{
+    if old.name.as_slice() == new.name.as_slice() {
+        new.copy(alloc)
+    } else {
+        old.copy(alloc)
+    }
+}
+
+/// The settings without the one of this name.
+pub fn settings_without(
+    alloc: Global,
+    settings: &[Setting],
+    name: &[u8],
+) -> Result<Settings, NoMemory>
+    ensures { IfOk result (λ r. r ≡ settings_without name.now settings.now) }
+{
+    let mut left = Vec::new(alloc);
+    for setting in settings {
+        if setting.name.as_slice() != name {
+            left.push(setting.copy(alloc)?)?;
+        }
+    }
+    Ok(Sequence::from_vec(left))
 }
