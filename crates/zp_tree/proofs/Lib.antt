@@ -12,3 +12,10 @@ pub mod Coming
 pub mod Sums
 pub mod Found
 pub mod VerdictTexts
+pub mod Depending
+pub mod DestroyExamples
+mod PromoteExamples
+pub mod Passing
+pub mod Nearest
+mod InheritedExamples
+pub mod RecordNames

@@ -25,6 +25,13 @@ at-low low n i (x ∷ rs) r h e =
       | inr other ↦ let le : id_of x + 1 ≤ i = at-low (id_of x + 1) n i rs r h.1 (sym (ap (λ b. cond b (Some x) (at rs i)) (ne_eqb (id_of x) i other)) ∙ e) in omega (arith, h.0)
     ]
 
+-- a record behind another stands at its id, with that one in front too
+pub at-later : (x : Item) (n : ℕ) (rs : List Item) (i : ℕ) (r : Item) → Rises (id_of x + 1) rs n → at rs i ≡ Some r → at (x ∷ rs) i ≡ Some r
+at-later x n rs i r h e =
+    let le : id_of x + 1 ≤ i = at-low (id_of x + 1) n i rs r h e in
+    let other : id_of x ≡ i → ⊥ = λ same. omega arith in
+    ap (λ b. cond b (Some x) (at rs i)) (ne_eqb (id_of x) i other) ∙ e
+
 -- what a search finds stands at its id
 pub found-at : (p : Item → Bool) (low n : ℕ) (rs : List Item) (r : Item) → Rises low rs n → find p rs ≡ Some r → at rs (id_of r) ≡ Some r
 found-at p low n [] r h e = cc

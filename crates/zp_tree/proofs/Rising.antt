@@ -14,7 +14,7 @@ pub rises-added : (low n : ℕ) (rs : List Item) (x : Item) → Rises low rs n �
 rises-added low n [] x h e = (omega arith, omega arith)
 rises-added low n (r ∷ rs) x h e = (h.0, rises-added (id_of r + 1) n rs x h.1 e)
 
-rises-weaken : (low high n : ℕ) (rs : List Item) → low ≤ high → Rises high rs n → Rises low rs n
+pub rises-weaken : (low high n : ℕ) (rs : List Item) → low ≤ high → Rises high rs n → Rises low rs n
 rises-weaken low high n [] le h = omega arith
 rises-weaken low high n (r ∷ rs) le h = (let more : high ≤ id_of r = h.0 in omega arith, h.1)
 

@@ -12,6 +12,13 @@ use Rattle.zp_tree.specs.Unmount.{unmount_check, unmount_change}
 use Rattle.zp_tree.specs.WriteStamp.{stamp_check, stamp_change}
 use Rattle.zp_tree.specs.Rollback.{rollback_check, rollback_change}
 use Rattle.zp_tree.specs.RenameSnapshot.{rename_snapshot_check, rename_snapshot_change}
+use Rattle.zp_tree.specs.Destroy.{destroy_check, destroy_change}
+use Rattle.zp_tree.specs.Promote.{promote_check, promote_change}
+use Rattle.zp_tree.specs.Rename.{rename_check, rename_change}
+use Rattle.zp_tree.specs.SetProperty.{set_check, set_change}
+use Rattle.zp_tree.specs.InheritProperty.{inherit_check, inherit_change}
+use Rattle.zp_tree.specs.PlaceHold.{hold_check, hold_change}
+use Rattle.zp_tree.specs.ReleaseHold.{release_check, release_change}
 
 -- the verdict on a command
 abbrev pub check_of : Tree → Command → Verdict
@@ -23,6 +30,13 @@ check_of t (command.Unmount name) = unmount_check t name
 check_of t (command.Stamp name value) = stamp_check t name
 check_of t (command.Rollback name) = rollback_check t name
 check_of t (command.RenameSnapshot name old new) = rename_snapshot_check t name old new
+check_of t (command.Destroy name defer) = destroy_check t name defer
+check_of t (command.Promote name) = promote_check t name
+check_of t (command.Rename name to) = rename_check t name to
+check_of t (command.Set name property value) = set_check t name property value
+check_of t (command.Inherit name property) = inherit_check t name property
+check_of t (command.Hold name tag) = hold_check t name tag
+check_of t (command.Release name tag) = release_check t name tag
 
 -- the tree after a command, in a transaction group, at a moment in seconds
 abbrev pub change_of : Tree → Command → ℕ → ℕ → Tree
@@ -34,3 +48,10 @@ change_of t (command.Unmount name) txg now = unmount_change t name
 change_of t (command.Stamp name value) txg now = stamp_change t name value
 change_of t (command.Rollback name) txg now = rollback_change t name
 change_of t (command.RenameSnapshot name old new) txg now = rename_snapshot_change t name old new
+change_of t (command.Destroy name defer) txg now = destroy_change t name defer
+change_of t (command.Promote name) txg now = promote_change t name
+change_of t (command.Rename name to) txg now = rename_change t name to
+change_of t (command.Set name property value) txg now = set_change t name property value
+change_of t (command.Inherit name property) txg now = inherit_change t name property
+change_of t (command.Hold name tag) txg now = hold_change t name tag now
+change_of t (command.Release name tag) txg now = release_change t name tag

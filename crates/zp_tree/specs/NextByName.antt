@@ -6,7 +6,7 @@ use Rattle.std.specs.Cmp.Lexicographic.{slice_cmp}
 use Rattle.zp_names.specs.NameParts.{parent_of}
 use Rattle.zp_tree.specs.declared.item.Item.{Item}
 use Rattle.zp_tree.specs.declared.item.Item.TheVariants as item
-use Rattle.zp_tree.specs.Tree.{as_head, as_snapshot, is_text, head_name, id_of}
+use Rattle.zp_tree.specs.Tree.{as_head, as_snapshot, as_bookmark, is_text, head_name, id_of}
 
 abbrev pub is_above : List ℕ → List ℕ → Bool
 is_above x y = is_gt (slice_cmp nat_cmp x y)
@@ -25,6 +25,13 @@ snapshot_above owner name after r = option_map_or (λ s. s.owner == owner && is_
 
 abbrev pub is_snapshot_above : List Item → ℕ → List ℕ → Item → Bool
 is_snapshot_above rs owner after r = option_map_or (λ n. snapshot_above owner n after r) (head_name rs owner) false
+
+-- a bookmark of this head, which has this name, with a full name above the text
+abbrev pub bookmark_above : ℕ → List ℕ → List ℕ → Item → Bool
+bookmark_above owner name after r = option_map_or (λ m. m.owner == owner && is_above (name ++ (35 ∷ m.short)) after) (as_bookmark r) false
+
+abbrev pub is_bookmark_above : List Item → ℕ → List ℕ → Item → Bool
+is_bookmark_above rs owner after r = option_map_or (λ n. bookmark_above owner n after r) (head_name rs owner) false
 
 abbrev pub is_id : ℕ → Option ℕ → Bool
 is_id i None = false

@@ -1,7 +1,7 @@
 -- The tree of a pool: its records in order of birth, and the id that the next record takes.
 -- Source: zfs(8), "ZFS File System Hierarchy" and "Snapshots"; ids in order of birth are this project's own.
-use Rattle.std.specs.Prelude.{ℕ, ◌+◌, ◌-◌, ◌^◌, ◌==◌, ◌||◌, ◌≡◌, ◌≤◌, nat_le, Bool, true, false, cond, List, [], ◌∷◌, ◌++◌, length, bytes_eq, Option, Some, None, is_some, option_map, option_and_then, find, MatchOption}
-use Rattle.zp_names.specs.NameParts.{parent_of}
+use Rattle.std.specs.Prelude.{ℕ, ◌+◌, ◌-◌, ◌^◌, ◌==◌, ◌||◌, ◌≡◌, ◌≤◌, nat_le, Bool, true, false, cond, List, [], ◌∷◌, ◌++◌, length, map, bytes_eq, Option, Some, None, is_some, option_map, option_and_then, unwrap_or, find, MatchOption}
+use Rattle.zp_names.specs.NameParts.{parent_of, within_name}
 use Rattle.zp_tree.specs.declared.item.Item.{Item}
 use Rattle.zp_tree.specs.declared.item.Item.TheVariants as item
 use Rattle.zp_tree.specs.declared.item.Head.{Head}
@@ -73,6 +73,10 @@ is_text t (Some u) = bytes_eq u t
 abbrev pub is_called : List Item → List ℕ → Item → Bool
 is_called rs name r = is_text name (full_name rs r)
 
+-- the full name of the record with this id; none where there is none, or where it is longer than a name may be
+abbrev pub record_name : List Item → ℕ → Option (List ℕ)
+record_name rs i = option_and_then within_name (option_and_then (full_name rs) (at rs i))
+
 -- a record with this full name
 abbrev pub named : List Item → List ℕ → Option Item
 named rs name = find (is_called rs name) rs
@@ -92,6 +96,10 @@ head_named t name = option_and_then as_head (named t.records name)
 -- the snapshot of this name
 abbrev pub snapshot_named : Tree → List ℕ → Option Snapshot
 snapshot_named t name = option_and_then as_snapshot (named t.records name)
+
+-- the bookmark of this name
+abbrev pub bookmark_named : Tree → List ℕ → Option Bookmark
+bookmark_named t name = option_and_then as_bookmark (named t.records name)
 
 -- the head with this id
 abbrev pub head_at : Tree → ℕ → Option Head
@@ -120,3 +128,11 @@ added t x = record { records = t.records ++ x ∷ []; next = t.next + 1 }
 -- the tree with a record in the place of the one that has its id
 abbrev pub replaced : Tree → Item → Tree
 replaced t x = record t { records = put x t.records }
+
+-- the tree without the record with this id
+abbrev pub removed : Tree → ℕ → Tree
+removed t i = record t { records = without i t.records }
+
+-- the list with each record that a change speaks of as the change makes it, and the others as they are
+abbrev pub changed : (Item → Option Item) → List Item → List Item
+changed change rs = map (λ r. unwrap_or (change r) r) rs

@@ -53,6 +53,11 @@ IsRecord (item.Head d) = IsHead d
 IsRecord (item.Snap s) = IsSnapshot s
 IsRecord (item.Mark m) = is_valid_short m.short ≡ true
 
+-- ids rise, and each record is in order by itself
+pub record AreRecords (t : Tree) : Type 0 where
+  pub rises : Rises 0 t.records t.next
+  pub records : (i : ℕ) (r : Item) → at t.records i ≡ Some r → IsRecord r
+
 -- the pool's head, the first of all records
 pub record HasPool (look : Look) : Type 0 where
   pub id : ℕ

@@ -5,7 +5,7 @@ ghost use Rattle.std.specs.Prelude.{◌≡◌, IfOk};
 use std::alloc::Global;
 use zc_io::NoMemory;
 use zp_names::{Bytes, Name, Sequence};
-use zp_props::{Settings, copy_settings};
+use zp_props::{Kind3, Setting, Settings, copy_settings};
 
 /// What a head is: zfs(8), "file system" and "volume".
 #[derive(Clone, Copy, Debug, PartialEq, Eq, Drop)]
@@ -14,6 +14,20 @@ pub enum HeadKind {
     Filesystem,
     /// A block device of a fixed size; no dataset is below it.
     Volume,
+}
+
+impl HeadKind {
+    ghost use Rattle.zp_tree.specs.Inherited.{kind_of_head};
+
+    /// The kind of the dataset.
+    pub fn kind(self) -> Kind3
+        ensures { result ≡ kind_of_head self }
+    {
+        match self {
+            HeadKind::Filesystem => Kind3::Filesystem,
+            HeadKind::Volume => Kind3::Volume,
+        }
+    }
 }
 
 /// A file system or a volume, by its name in the pool.
@@ -97,6 +111,7 @@ pub enum Item {
 }
 
 impl Item {
+    ghost use Rattle.zp_tree.specs.Settable.{kind_of_item, settings_of_item, with_settings};
     ghost use Rattle.zp_tree.specs.Tree.{id_of};
 
     /// The id of the record.
@@ -107,6 +122,45 @@ impl Item {
             Item::Head(head) => head.id,
             Item::Snap(snapshot) => snapshot.id,
             Item::Mark(bookmark) => bookmark.id,
+        }
+    }
+
+    /// The kind of the dataset; none of a bookmark.
+    pub fn kind(&self) -> Option<Kind3>
+        ensures { result ≡ kind_of_item self.now }
+    {
+        match self {
+            Item::Head(head) => Some(head.kind.kind()),
+            Item::Snap(_) => Some(Kind3::Snapshot),
+            Item::Mark(_) => None,
+        }
+    }
+
+    /// The properties that are set on the dataset; none of a bookmark.
+    pub fn settings(&self) -> &[Setting]
+        ensures { result.now ≡ settings_of_item self.now }
+    {
+        match self {
+            Item::Head(head) => head.settings.as_slice(),
+            Item::Snap(snapshot) => snapshot.settings.as_slice(),
+            Item::Mark(_) => &[],
+        }
+    }
+
+    /// The record with these settings; a bookmark as it is.
+    pub fn with_settings(self, settings: Settings) -> Item
+        ensures { result ≡ with_settings settings self }
+    {
+        match self {
+            Item::Head(mut head) => {
+                head.settings = settings;
+                Item::Head(head)
+            }
+            Item::Snap(mut snapshot) => {
+                snapshot.settings = settings;
+                Item::Snap(snapshot)
+            }
+            Item::Mark(bookmark) => Item::Mark(bookmark),
         }
     }
 

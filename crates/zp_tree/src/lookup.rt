@@ -1,12 +1,14 @@
 //! Looking records up by name.
 
-ghost use Rattle.std.specs.Prelude.{◌≡◌, IfSome, option_map};
+ghost use Rattle.std.specs.Prelude.{◌≡◌, Some, IfSome, option_map};
+ghost use Rattle.zp_tree.specs.Inherited.{set_on, told_by, is_on, is_readonly};
 ghost use Rattle.zp_tree.specs.Tree.{at, id_of, named, exists, is_full};
 ghost use Rattle.zp_tree.specs.Rollback.{rollback_source};
 ghost use Rattle.zp_tree.specs.WellFormed.{IsWellFormed};
 
-use crate::{Datasets, Head, Item, MOST_RECORDS, Snapshot};
+use crate::{Datasets, Effective, Head, Item, MOST_RECORDS, Snapshot};
 use zp_names::Name;
+use zp_props::PropValue;
 
 /// The record with this full name; none where there is none.
 pub fn named<'a, T: Datasets>(tree: &'a T, name: &Name) -> Option<&'a Item>
@@ -44,4 +46,30 @@ pub fn is_full<T: Datasets>(tree: &T) -> bool
     ensures { result ≡ is_full (T.tree tree.now) }
 {
     tree.len() >= MOST_RECORDS || tree.next_id() == u64::MAX
+}
+
+/// Whether the head can't be written: its value of `readonly` (zfsprops(7)) is on.
+pub fn is_readonly<T: Datasets>(tree: &T, head: &Head) -> bool
+    requires { IsWellFormed (T.tree tree.now) }
+    ensures { result ≡ is_readonly (T.tree tree.now) head.now }
+{
+    is_on(tree.effective(head.id, b"readonly"))
+}
+
+fn is_on(found: Option<Effective<'_>>) -> bool
+    ensures { result ≡ is_on (option_map told_by found.entry) }
+{
+    match found {
+        Some(Effective::Set { value, .. }) => is_word_on(value),
+        _ => false,
+    }
+}
+
+fn is_word_on(value: &PropValue) -> bool
+    ensures { result ≡ is_on (Some (set_on value.now 0)) }
+{
+    match value {
+        PropValue::Text(word) => word.as_slice() == b"on".as_slice(),
+        PropValue::Number(_) => false,
+    }
 }

@@ -3,7 +3,7 @@
 ghost use Rattle.std.specs.Prelude.{◌≡◌, ◌∷◌, ◌++◌, option_map};
 ghost use Rattle.std.specs.Ordering.{nat_cmp};
 ghost use Rattle.std.specs.Cmp.Lexicographic.{slice_cmp};
-ghost use Rattle.zp_tree.specs.NextByName.{is_above, is_id, key_of, child_above, snapshot_above, is_clone_above, Comes, better};
+ghost use Rattle.zp_tree.specs.NextByName.{is_above, is_id, key_of, child_above, snapshot_above, is_clone_above, bookmark_above, Comes, better};
 
 use crate::Item;
 use std::cmp::Ordering;
@@ -38,6 +38,14 @@ pub(crate) struct Snapshots<'a> {
 #[derive(Drop)]
 pub(crate) struct Clones<'a> {
     pub(crate) snapshot: u64,
+    pub(crate) after: &'a [u8],
+}
+
+/// The bookmarks of the head with this id and name, with full names above a text.
+#[derive(Drop)]
+pub(crate) struct Bookmarks<'a> {
+    pub(crate) owner: u64,
+    pub(crate) name: &'a [u8],
     pub(crate) after: &'a [u8],
 }
 
@@ -117,6 +125,20 @@ impl<'a> Wanted for Clones<'a> {
                 origin == self.snapshot && is_above(head.name.text().as_bytes(), self.after)
             }
             None => false,
+        }
+    }
+}
+
+impl<'a> Wanted for Bookmarks<'a> {
+    ghost wants = { λ w. bookmark_above w.owner w.name.now w.after.now };
+
+    fn wants(&self, item: &Item) -> bool {
+        match item {
+            Item::Mark(bookmark) => {
+                bookmark.owner == self.owner
+                    && is_joined_above(self.name, b'#', bookmark.short.as_slice(), self.after)
+            }
+            _ => false,
         }
     }
 }

@@ -1,21 +1,23 @@
 //! The tree as a vector of its records.
 
-ghost use Rattle.std.specs.Prelude.{◌≡◌, ◌≤◌, ◌-◌, ◌++◌, ◌∷◌, true, bytes_eq, option_map, IfOk, IsSome, position, vec_len, vec_capacity};
+ghost use Rattle.std.specs.Prelude.{◌≡◌, ◌≤◌, ◌-◌, ◌++◌, ◌∷◌, true, bytes_eq, option_map, IfOk, IsSome, position, sum_by, vec_len, vec_capacity};
 ghost use Rattle.zp_names.specs.NameParts.{is_pool};
 ghost use Rattle.zp_tree.specs.Tree.{at, has_id, id_of, put, without, head_name, is_called, named};
 ghost use Rattle.std.specs.Option.{option_or};
-ghost use Rattle.zp_tree.specs.NextByName.{IsNext, is_child_above, is_snapshot_above, is_clone_above};
+ghost use Rattle.zp_tree.specs.NextByName.{IsNext, is_child_above, is_snapshot_above, is_clone_above, is_bookmark_above};
 ghost use Rattle.zp_tree.specs.NewPool.{new_pool};
 ghost use Rattle.zp_tree.specs.Rollback.{own_snapshot, latest};
-ghost use Rattle.zp_tree.specs.WellFormed.{IsWellFormed};
+ghost use Rattle.zp_tree.specs.WellFormed.{IsWellFormed, user_settings, most_user_settings};
 
-use crate::next_by_name::{Children, Clones, Snapshots, first_by_name};
-use crate::{Datasets, Head, HeadKind, Item, Snapshot};
+use crate::climb::effective;
+use crate::full_name::name_of;
+use crate::next_by_name::{Bookmarks, Children, Clones, Snapshots, first_by_name};
+use crate::{Datasets, Effective, Head, HeadKind, Item, Snapshot};
 use std::alloc::Global;
 use std::marker::Model;
 use zc_io::NoMemory;
 use zp_names::Name;
-use zp_props::Settings;
+use zp_props::{Settings, user_count};
 
 /// A tree as a vector of its records: each look-up walks it.
 #[derive(Debug, Drop)]
@@ -59,7 +61,7 @@ impl PlainTree {
     }
 }
 
-fn item_at(records: &[Item], id: u64) -> Option<&Item>
+pub(crate) fn item_at(records: &[Item], id: u64) -> Option<&Item>
     ensures { option_map (λ r. r.now) result ≡ at records.now id }
 {
     records.iter().find(|item| item.id() == id)
@@ -182,6 +184,39 @@ fn clones_after(records: &[Item], snapshot: u64, after: &[u8]) -> Option<u64>
     id_of(first_by_name(records, &Clones { snapshot, after }))
 }
 
+fn user_settings_of(item: &Item) -> u64
+    ensures { result ≡ user_settings item.now }
+{
+    match item {
+        Item::Head(head) => user_count(head.settings.as_slice()) as u64,
+        Item::Snap(snapshot) => user_count(snapshot.settings.as_slice()) as u64,
+        Item::Mark(_) => 0,
+    }
+}
+
+fn user_settings(records: &[Item]) -> u64
+    requires { sum_by user_settings records.now ≤ most_user_settings }
+    ensures { result ≡ sum_by user_settings records.now }
+{
+    let mut sum = 0;
+    for item in records {
+        sum += user_settings_of(item);
+    }
+    sum
+}
+
+fn bookmarks_after(records: &[Item], owner: u64, after: &[u8]) -> Option<u64>
+    ensures { IsNext records.now (is_bookmark_above records.now owner after.now) result }
+{
+    match head_name(records, owner) {
+        None => None,
+        Some(name) => {
+            let name = name.as_bytes();
+            id_of(first_by_name(records, &Bookmarks { owner, name, after }))
+        }
+    }
+}
+
 fn copy_records(alloc: Global, records: &[Item]) -> Result<Vec<Item>, NoMemory>
     ensures { IfOk result (λ copy. copy.items ≡ records.now) }
 {
@@ -229,6 +264,10 @@ impl Datasets for PlainTree {
         item_at(self.records.as_slice(), id)
     }
 
+    fn nth(&self, place: u64) -> Option<&Item> {
+        self.records.get(place as usize)
+    }
+
     fn heads_after(&self, parent: u64, after: &[u8]) -> Option<u64> {
         children_after(self.records.as_slice(), parent, after)
     }
@@ -241,8 +280,24 @@ impl Datasets for PlainTree {
         clones_after(self.records.as_slice(), snapshot, after)
     }
 
+    fn marks_after(&self, owner: u64, after: &[u8]) -> Option<u64> {
+        bookmarks_after(self.records.as_slice(), owner, after)
+    }
+
+    fn name_of(&self, alloc: Global, id: u64) -> Result<Option<Name>, NoMemory> {
+        name_of(alloc, self.records.as_slice(), id)
+    }
+
     fn latest_snapshot(&self, owner: u64) -> Option<&Snapshot> {
         latest_snapshot(self.records.as_slice(), owner)
+    }
+
+    fn effective(&self, id: u64, name: &[u8]) -> Option<Effective<'_>> {
+        effective(self.records.as_slice(), id, name)
+    }
+
+    fn user_settings(&self) -> u64 {
+        user_settings(self.records.as_slice())
     }
 
     fn len(&self) -> u64 {

@@ -85,6 +85,8 @@ fn records_are_found_by_full_name_and_by_id(rt: HostRuntime) -> Result<(), Fail>
         assert_eq!(rt; tree.find(&name), id);
         assert_eq!(rt; exists(&tree, &name), id.is_some());
     }
+    assert_eq!(rt; tree.marks_after(2, b""), Some(4));
+    assert_eq!(rt; tree.marks_after(2, b"rpool/a#s"), None);
     let copy = tree.copy(alloc)?;
     if tree.item(2).is_some() {
         tree.replace(2, file_system(alloc, 2, b"rpool/b")?);
