@@ -3,9 +3,18 @@
 
 mod clone;
 mod create;
+mod destroy;
+mod form;
+mod hold;
+mod inherit;
 mod mount;
+mod promote;
+mod release;
+mod rename;
 mod rename_snapshot;
 mod rollback;
+mod set;
+mod short_names;
 mod snapshot;
 mod stamp;
 mod unmount;
@@ -35,6 +44,21 @@ pub fn check<T: Datasets>(alloc: Global, tree: &T, command: &Command) -> Result<
         Command::RenameSnapshot { name, old, new } => {
             rename_snapshot::check(alloc, tree, name, old.as_slice(), new.as_slice())
         }
+        Command::Destroy { name, defer } => Ok(destroy::check(alloc, tree, name, *defer)),
+        Command::Promote { name } => promote::check(alloc, tree, name),
+        Command::Rename { name, to } => rename::check(alloc, tree, name, to),
+        Command::Set { name, prop, value } => set::check(
+            alloc,
+            tree,
+            name,
+            prop.as_slice(),
+            value.as_slice(),
+        ),
+        Command::Inherit { name, prop } => {
+            Ok(inherit::check(alloc, tree, name, prop.as_slice()))
+        }
+        Command::Hold { name, tag } => Ok(hold::check(alloc, tree, name, tag.as_slice())),
+        Command::Release { name, tag } => Ok(release::check(alloc, tree, name, tag.as_slice())),
     }
 }
 

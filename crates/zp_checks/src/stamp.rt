@@ -5,9 +5,9 @@ ghost use Rattle.zp_tree.specs.WellFormed.{IsWellFormed};
 ghost use Rattle.zp_tree.specs.WriteStamp.{stamp_check};
 
 use std::alloc::Global;
-use zp_names::errno::{EINVAL, ENOENT};
+use zp_names::errno::{EINVAL, ENOENT, EROFS};
 use zp_names::{Name, Verdict};
-use zp_tree::{Datasets, Item, named};
+use zp_tree::{Datasets, Item, is_readonly, named};
 
 /// Whether the dataset of this name can be written.
 pub(crate) fn check<T: Datasets>(alloc: Global, tree: &T, name: &Name) -> Verdict
@@ -17,8 +17,11 @@ pub(crate) fn check<T: Datasets>(alloc: Global, tree: &T, name: &Name) -> Verdic
     if !name.is_head() {
         return Verdict::plain(alloc, EINVAL);
     }
-    let Some(Item::Head(_)) = named(tree, name) else {
+    let Some(Item::Head(head)) = named(tree, name) else {
         return Verdict::plain(alloc, ENOENT);
     };
+    if is_readonly(tree, head) {
+        return Verdict::plain(alloc, EROFS);
+    }
     Verdict::plain(alloc, 0)
 }
