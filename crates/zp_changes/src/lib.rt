@@ -1,11 +1,22 @@
 //! The changes of the commands: what a command that passed its check makes of the tree.
 #![tactic(auto)]
 
+mod change;
 mod clone;
 mod create;
+mod deferred;
+mod destroy;
+mod hold;
+mod inherit;
+pub mod laws;
 mod mount;
+mod promote;
+pub mod property_laws;
+mod release;
+mod rename;
 mod rename_snapshot;
 mod rollback;
+mod set;
 mod snapshot;
 mod stamp;
 mod unmount;
@@ -35,7 +46,6 @@ pub fn apply<T: Datasets>(
     ensures well { IsWellFormed (T.tree tree.new) }
     ensures err { OnErr result (T.tree tree.new ≡ T.tree tree.old) }
 {
-    let _ = now;
     match command {
         Command::Create { name } => create::apply(alloc, tree, name, txg),
         Command::Snapshot { name } => snapshot::apply(alloc, tree, name, txg),
@@ -47,5 +57,18 @@ pub fn apply<T: Datasets>(
         Command::RenameSnapshot { name, old, new } => {
             rename_snapshot::apply(alloc, tree, name, old.as_slice(), new.as_slice())
         }
+        Command::Destroy { name, defer } => destroy::apply(alloc, tree, name, *defer),
+        Command::Promote { name } => promote::apply(alloc, tree, name),
+        Command::Rename { name, to } => rename::apply(alloc, tree, name, to),
+        Command::Set { name, prop, value } => set::apply(
+            alloc,
+            tree,
+            name,
+            prop.as_slice(),
+            value.as_slice(),
+        ),
+        Command::Inherit { name, prop } => inherit::apply(alloc, tree, name, prop.as_slice()),
+        Command::Hold { name, tag } => hold::apply(alloc, tree, name, tag.as_slice(), now),
+        Command::Release { name, tag } => release::apply(alloc, tree, name, tag.as_slice()),
     }
 }

@@ -1,0 +1,5 @@
+pub mod Replacements
+pub mod PromotionLaws
+pub mod Renaming
+pub mod RenameLaws
+pub mod PropertyLaws
