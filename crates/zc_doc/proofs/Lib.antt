@@ -1,2 +1,4 @@
-pub mod Values
-pub mod Documents
+pub mod Unknown
+pub mod Items
+pub mod Named
+mod Examples

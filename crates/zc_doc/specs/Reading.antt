@@ -1,76 +1,112 @@
--- Reading the parts of a document from a JSON value: what stands there, or none where it has another form.
-use Rattle.std.specs.Prelude.{ℕ, ◌==◌, ◌≡◌, ⊤, Bool, false, nat_lt, nat_le, if◌then◌else◌, List, [], ◌∷◌, Option, Some, None, is_some, option_map, Result, Ok, Err}
-use Rattle.std.specs.Option.{option_map_or}
-use Rattle.serde_json.specs.Data.{Data, Items, no_items, item}
-use Rattle.serde_json.specs.Find.{get, as_number, as_u64, as_array, as_object}
-use Rattle.serde_json.specs.Events.{items_len, members_len}
+-- Reading the parts of a document from a JSON value (RFC 8259): what stands there, or the first refusal.
+use Rattle.std.specs.Prelude.{ℕ, ◌+◌, ◌≡◌, ⊤, ◌&&◌, Bool, bytes_eq, nat_lt, nat_le, if◌then◌else◌, List, [], ◌∷◌, Option, Some, None, Result, Ok, Err}
+use Rattle.std.specs.List.{list_any}
+use Rattle.std.specs.Fmt.{decimal}
+use Rattle.serde_json.specs.Data.{Data, null, boolean, number, string, array, object, Num, unsigned, negative, float, Items, no_items, item, Members, no_members, member as entry}
+use Rattle.serde_json.specs.Find.{get}
+use Rattle.serde_json.specs.Events.{items_len}
 use Rattle.zc_doc.specs.declared.error.DocError.{DocError}
-use Rattle.zc_doc.specs.declared.error.DocError.TheVariants.{NotBuilt, NoMemory}
+use Rattle.zc_doc.specs.declared.error.DocError.TheVariants as refusal
+use Rattle.zc_doc.specs.Refusals.{below_step}
 
+-- one after the other: the first refusal counts
 infixl 10 ◌>>=◌
-abbrev pub ◌>>=◌ : {A B : Type 0} → Option A → (A → Option B) → Option B
-(Some x) >>= f = f x
-None >>= f = None
+abbrev pub ◌>>=◌ : {A B : Type 0} → Result A DocError → (A → Result B DocError) → Result B DocError
+(Ok x) >>= f = f x
+(Err e) >>= f = Err e
 
--- the value where it passes the test
-abbrev pub where_passes : {A : Type 0} → (A → Bool) → A → Option A
-where_passes p x = if p x then Some x else None
+-- ---- single values
 
--- a whole number below a limit
-abbrev pub number_below : ℕ → Data → Option ℕ
-number_below limit d = as_number d >>= λ n. as_u64 n >>= λ k. where_passes (λ i. nat_lt i limit) k
+-- what passes the test
+abbrev pub named_so : (List ℕ → Bool) → List ℕ → Result (List ℕ) DocError
+named_so test name = if test name then Ok name else Err (refusal.BadName [])
 
--- the member of this name
-abbrev pub member : {A : Type 0} → (Data → Option A) → List ℕ → Data → Option A
-member reads key d = get key d >>= reads
+abbrev pub text_at : Data → Result (List ℕ) DocError
+text_at (string s) = Ok s
+text_at _ = Err (refusal.BadType [])
 
--- the member of this name is there
-abbrev pub has_member : List ℕ → Data → Bool
-has_member key d = is_some (get key d)
+abbrev pub flag_at : Data → Result Bool DocError
+flag_at (boolean b) = Ok b
+flag_at _ = Err (refusal.BadType [])
 
--- the member of this name, or this where it is missing
-abbrev pub member_or : {A : Type 0} → Option A → (Data → Option A) → List ℕ → Data → Option A
-member_or missing reads key d = option_map_or reads (get key d) missing
+-- a whole number in a range; one with a fraction or an exponent, or past 64 bits, is not whole
+abbrev pub whole_within : ℕ → ℕ → Num → Result ℕ DocError
+whole_within low high (unsigned n) = if nat_le low n && nat_le n high then Ok n else Err (refusal.BadLimit [])
+whole_within low high (negative z) = Err (refusal.BadLimit [])
+whole_within low high (float x) = Err (refusal.BadType [])
 
--- how many members an object has, and how many items an array has
-abbrev pub width_of : Data → Option ℕ
-width_of d = option_map members_len (as_object d)
+abbrev pub number_at : ℕ → ℕ → Data → Result ℕ DocError
+number_at low high (number n) = whole_within low high n
+number_at low high _ = Err (refusal.BadType [])
 
-abbrev pub length_of : Data → Option ℕ
-length_of d = option_map items_len (as_array d)
+-- ---- objects
 
--- there is a number, and it is this one
-abbrev pub is_number : ℕ → Option ℕ → Bool
-is_number n None = false
-is_number n (Some k) = k == n
+-- a value that has to be there
+abbrev pub present : {A : Type 0} → (Data → Result A DocError) → Option Data → Result A DocError
+present reads None = Err (refusal.Missing [])
+present reads (Some d) = reads d
 
--- an object with so many members
-abbrev pub has_width : ℕ → Data → Bool
-has_width n d = is_number n (width_of d)
+-- a value that may be missing
+abbrev pub present_or : {A : Type 0} → A → (Data → Result A DocError) → Option Data → Result A DocError
+present_or default reads None = Ok default
+present_or default reads (Some d) = reads d
 
--- item by item
-abbrev pub items : {A : Type 0} → (Data → Option A) → Items → Option (List A)
-items reads no_items = Some []
-items reads (item d ds) = reads d >>= λ x. items reads ds >>= λ xs. Some (x ∷ xs)
+abbrev pub member : {A : Type 0} → (Data → Result A DocError) → List ℕ → Data → Result A DocError
+member reads key d = below_step key (present reads (get key d))
 
--- an array of at most so many items
-abbrev pub array_within : {A : Type 0} → ℕ → (Data → Option A) → Data → Option (List A)
-array_within limit reads d = as_array d >>= λ ds. if nat_le (items_len ds) limit then items reads ds else None
+abbrev pub member_or : {A : Type 0} → A → (Data → Result A DocError) → List ℕ → Data → Result A DocError
+member_or default reads key d = below_step key (present_or default reads (get key d))
 
--- an array without items
-abbrev pub is_empty_array : Data → Bool
-is_empty_array d = is_number 0 (length_of d)
+-- the names that are known
+abbrev pub is_among : List (List ℕ) → List ℕ → Bool
+is_among known key = list_any (bytes_eq key) known
 
--- what is read, where a test passes
-abbrev pub only_if : {A : Type 0} → Bool → Option A → Option A
-only_if b x = if b then x else None
+-- the name of the first member, in byte order, that is not known
+abbrev pub first_unknown : (List ℕ → Bool) → Members → Option (List ℕ)
+first_unknown known no_members = None
+first_unknown known (entry key d ms) = if known key then first_unknown known ms else Some key
 
--- the member of this name is there and passes
-abbrev pub member_passes : (Data → Bool) → List ℕ → Data → Bool
-member_passes p key d = option_map_or p (get key d) false
+abbrev pub none_unknown : Option (List ℕ) → Result ⊤ DocError
+none_unknown None = Ok tt
+none_unknown (Some key) = below_step key (Err (refusal.Unknown []))
 
--- what a reader answered is what the definition gives, unless memory ran out
-abbrev pub Gives : {A : Type 0} → Result A DocError → Option A → Type 0
-Gives (Ok x) read = read ≡ Some x
-Gives (Err NotBuilt) read = read ≡ None
-Gives (Err NoMemory) read = ⊤
+-- an object
+abbrev pub members_at : Data → Result Members DocError
+members_at (object ms) = Ok ms
+members_at _ = Err (refusal.BadType [])
+
+-- an object with no members but known ones
+abbrev pub only_members : (List ℕ → Bool) → Data → Result ⊤ DocError
+only_members known d = members_at d >>= λ ms. none_unknown (first_unknown known ms)
+
+-- ---- arrays
+
+-- item by item, the first of which has this place
+abbrev pub items_from : {A : Type 0} → (Data → Result A DocError) → ℕ → Items → Result (List A) DocError
+items_from reads place no_items = Ok []
+items_from reads place (item d ds) = below_step (decimal place) (reads d) >>= λ x. items_from reads (place + 1) ds >>= λ xs. Ok (x ∷ xs)
+
+-- at most so many items
+abbrev pub items_within : {A : Type 0} → ℕ → (Data → Result A DocError) → Items → Result (List A) DocError
+items_within limit reads ds = if nat_lt limit (items_len ds) then Err (refusal.TooMany [] (items_len ds)) else items_from reads 0 ds
+
+abbrev pub array_at : {A : Type 0} → ℕ → (Data → Result A DocError) → Data → Result (List A) DocError
+array_at limit reads (array ds) = items_within limit reads ds
+array_at limit reads _ = Err (refusal.BadType [])
+
+-- ---- what a function answers
+
+-- this was refused for this cause, unless memory ran out
+abbrev pub Fails : {A : Type 0} → DocError → Result A DocError → Type 0
+Fails refusal.NoMemory read = ⊤
+Fails e read = read ≡ Err e
+
+-- what was answered is what the definition gives, unless memory ran out
+abbrev pub Gives : {A : Type 0} → Result A DocError → Result A DocError → Type 0
+Gives (Ok x) read = read ≡ Ok x
+Gives (Err e) read = Fails e read
+
+-- the same, of a text that is lent
+abbrev pub ok_map : {A B : Type 0} → (A → B) → Result A DocError → Result B DocError
+ok_map f (Ok x) = Ok (f x)
+ok_map f (Err e) = Err e

@@ -1,11 +1,17 @@
 //! Names and calls in a document.
 
+ghost use Rattle.std.specs.Prelude.{◌≡◌, ◌-◌, ◌^◌, true, codes, IfOk};
 ghost use Rattle.serde_json.specs.View.{view};
-ghost use Rattle.zc_doc.specs.Reading.{Gives};
-ghost use Rattle.zc_doc.specs.Calls.{any_name_at, pool_at, name_at, only_name, clone_in, stamp_in, rename_snapshot_in, command_of, call_of, call_at};
+ghost use Rattle.zp_names.specs.Names.{is_valid_name};
+ghost use Rattle.zp_names.specs.NameParts.{is_pool};
+ghost use Rattle.zp_calls.specs.Names.{HasValidNames};
+ghost use Rattle.zp_calls.specs.declared.call.Call.TheVariants as call;
+ghost use Rattle.zc_doc.specs.Reading.{Gives, ok_map};
+ghost use Rattle.zc_doc.specs.Calls.{any_name_at, pool_at, name_at, a_name, one, command_of, query_of, op_in, command_at, call_of, call_at};
 
 use crate::DocError;
-use crate::reading::{NumberBelow, Reader, Text, has_width, member};
+use crate::error::Path;
+use crate::reading::{Flag, NumberIn, Reader, Text, member, member_or, only_members};
 use serde_json::Value;
 use std::alloc::Global;
 use zp_calls::Call;
@@ -13,15 +19,15 @@ use zp_names::{BadName, Command, Name, Query};
 
 /// Reads a valid name.
 fn read_name(alloc: Global, value: &Value) -> Result<Name, DocError>
-    ensures { Gives result (any_name_at (view value.now)) }
+    ensures gives { Gives result (any_name_at (view value.now)) }
 {
     let Some(text) = value.as_str() else {
-        return Err(DocError::NotBuilt);
+        return Err(DocError::bad_type(alloc));
     };
     match Name::read(alloc, text.as_bytes()) {
         Ok(name) => Ok(name),
         Err(BadName::NoMemory) => Err(DocError::NoMemory),
-        Err(_) => Err(DocError::NotBuilt),
+        Err(_) => Err(DocError::bad_name(alloc)),
     }
 }
 
@@ -34,12 +40,14 @@ impl Reader for PoolName {
 
     ghost reads = { λ _. pool_at };
 
+    ghost Holds = { λ _ name. is_pool name ≡ true };
+
     fn read(&self, alloc: Global, value: &Value) -> Result<Name, DocError> {
         let name = read_name(alloc, value)?;
         if name.is_pool() {
             Ok(name)
         } else {
-            Err(DocError::NotBuilt)
+            Err(DocError::bad_name(alloc))
         }
     }
 }
@@ -55,12 +63,53 @@ impl Reader for NameIn<'_> {
 
     ghost reads = { λ r. name_at r.pool.now };
 
+    ghost Holds = { λ _ name. is_valid_name name ≡ true };
+
     fn read(&self, alloc: Global, value: &Value) -> Result<Name, DocError> {
         let name = read_name(alloc, value)?;
+        let _valid = name.text();
         if name.pool() == self.pool.text() {
             Ok(name)
         } else {
-            Err(DocError::NotBuilt)
+            Err(DocError::bad_name(alloc))
+        }
+    }
+}
+
+/// Reads the op that an object has.
+fn read_op<'a>(alloc: Global, value: &'a Value) -> Result<&'a str, DocError>
+    ensures { Gives (ok_map (λ op. op.now) result) (op_in (view value.now)) }
+{
+    if !value.is_object() {
+        return Err(DocError::bad_type(alloc));
+    }
+    let path = Path::whole(alloc).behind(alloc, "op")?;
+    match value.get("op") {
+        Some(op) => match op.as_str() {
+            Some(op) => Ok(op),
+            None => Err(DocError::BadType(path)),
+        },
+        None => Err(DocError::Missing(path)),
+    }
+}
+
+/// A command on datasets of a pool.
+#[derive(Drop)]
+pub(crate) struct CommandIn<'a> {
+    pub(crate) pool: &'a Name,
+}
+
+impl Reader for CommandIn<'_> {
+    type Out = Command;
+
+    ghost reads = { λ r. command_at r.pool.now };
+
+    ghost Holds = { λ _ c. HasValidNames (call.Command c) };
+
+    fn read(&self, alloc: Global, value: &Value) -> Result<Command, DocError> {
+        match read_op(alloc, value) {
+            Ok(op) => read_command(alloc, self.pool, op, value),
+            Err(error) => Err(error),
         }
     }
 }
@@ -76,23 +125,23 @@ impl Reader for CallIn<'_> {
 
     ghost reads = { λ r. call_at r.pool.now };
 
+    ghost Holds = { λ _ c. HasValidNames c };
+
     fn read(&self, alloc: Global, value: &Value) -> Result<Call, DocError> {
-        let Some(op) = value.get("op").and_then(Value::as_str) else {
-            return Err(DocError::NotBuilt);
-        };
-        read_call(alloc, self.pool, op, value)
+        match read_op(alloc, value) {
+            Ok(op) => read_call(alloc, self.pool, op, value),
+            Err(error) => Err(error),
+        }
     }
 }
 
 /// Reads the call of an op.
 fn read_call(alloc: Global, pool: &Name, op: &str, value: &Value) -> Result<Call, DocError>
-    ensures { Gives result (call_of op.now pool.now (view value.now)) }
+    ensures gives { Gives result (call_of pool.now op.now (view value.now)) }
+    ensures names { IfOk result HasValidNames }
 {
     match op {
-        "exists" => {
-            let name = only_name(alloc, pool, value)?;
-            Ok(Call::Query(Query::Exists { name }))
-        }
+        "exists" => Ok(Call::Query(read_exists(alloc, pool, value)?)),
         _ => Ok(Call::Command(read_command(alloc, pool, op, value)?)),
     }
 }
@@ -100,7 +149,8 @@ fn read_call(alloc: Global, pool: &Name, op: &str, value: &Value) -> Result<Call
 /// Reads the command of an op.
 #[tactic(auto, unfolding(crate::specs::Calls::command_of))]
 fn read_command(alloc: Global, pool: &Name, op: &str, value: &Value) -> Result<Command, DocError>
-    ensures { Gives result (command_of op.now pool.now (view value.now)) }
+    ensures gives { Gives result (command_of pool.now op.now (view value.now)) }
+    ensures names { IfOk result (λ c. HasValidNames (call.Command c)) }
 {
     match op {
         "create" => Ok(Command::Create {
@@ -109,7 +159,7 @@ fn read_command(alloc: Global, pool: &Name, op: &str, value: &Value) -> Result<C
         "snapshot" => Ok(Command::Snapshot {
             name: only_name(alloc, pool, value)?,
         }),
-        "clone" if has_width(value, 3) => read_clone(alloc, pool, value),
+        "clone" => read_clone(alloc, pool, value),
         "mount" => Ok(Command::Mount {
             name: only_name(alloc, pool, value)?,
         }),
@@ -119,47 +169,140 @@ fn read_command(alloc: Global, pool: &Name, op: &str, value: &Value) -> Result<C
         "rollback" => Ok(Command::Rollback {
             name: only_name(alloc, pool, value)?,
         }),
-        "stamp" if has_width(value, 3) => read_stamp(alloc, pool, value),
-        "rename_snapshot" if has_width(value, 4) => read_rename_snapshot(alloc, pool, value),
-        _ => Err(DocError::NotBuilt),
+        "stamp" => read_stamp(alloc, pool, value),
+        "rename_snapshot" => read_rename_snapshot(alloc, pool, value),
+        "destroy" => read_destroy(alloc, pool, value),
+        "promote" => Ok(Command::Promote {
+            name: only_name(alloc, pool, value)?,
+        }),
+        "rename" => read_rename(alloc, pool, value),
+        "set" => read_set(alloc, pool, value),
+        "inherit" => read_inherit(alloc, pool, value),
+        "hold" => read_hold(alloc, pool, value),
+        "release" => read_release(alloc, pool, value),
+        _ => Err(DocError::BadType(Path::whole(alloc).behind(alloc, "op")?)),
     }
 }
 
-/// Reads the name of a call that has no other field.
-#[tactic(auto, unfolding(crate::specs::Calls::only_name))]
-fn only_name(alloc: Global, pool: &Name, value: &Value) -> Result<Name, DocError>
-    ensures { Gives result (only_name pool.now (view value.now)) }
-{
-    if !has_width(value, 2) {
-        return Err(DocError::NotBuilt);
-    }
-    member(alloc, &NameIn { pool }, "name", value)
-}
-
-#[tactic(auto, unfolding(crate::specs::Calls::clone_in))]
+#[tactic(auto, unfolding(crate::specs::Calls::command_of))]
 fn read_clone(alloc: Global, pool: &Name, value: &Value) -> Result<Command, DocError>
-    ensures { Gives result (clone_in pool.now (view value.now)) }
+    ensures gives { Gives result (command_of pool.now (codes "clone") (view value.now)) }
+    ensures names { IfOk result (λ c. HasValidNames (call.Command c)) }
 {
+    only_members(alloc, &["op", "source", "name"], value)?;
     let source = member(alloc, &NameIn { pool }, "source", value)?;
     let name = member(alloc, &NameIn { pool }, "name", value)?;
     Ok(Command::Clone { source, name })
 }
 
-#[tactic(auto, unfolding(crate::specs::Calls::stamp_in))]
+#[tactic(auto, unfolding(crate::specs::Calls::command_of))]
 fn read_stamp(alloc: Global, pool: &Name, value: &Value) -> Result<Command, DocError>
-    ensures { Gives result (stamp_in pool.now (view value.now)) }
+    ensures gives { Gives result (command_of pool.now (codes "stamp") (view value.now)) }
+    ensures names { IfOk result (λ c. HasValidNames (call.Command c)) }
 {
+    only_members(alloc, &["op", "name", "value"], value)?;
+    let number = NumberIn {
+        low: 0,
+        high: (1 << 63) - 1,
+    };
     let name = member(alloc, &NameIn { pool }, "name", value)?;
-    let value = member(alloc, &NumberBelow { limit: 1 << 63 }, "value", value)?;
+    let value = member(alloc, &number, "value", value)?;
     Ok(Command::Stamp { name, value })
 }
 
-#[tactic(auto, unfolding(crate::specs::Calls::rename_snapshot_in))]
+#[tactic(auto, unfolding(crate::specs::Calls::command_of))]
 fn read_rename_snapshot(alloc: Global, pool: &Name, value: &Value) -> Result<Command, DocError>
-    ensures { Gives result (rename_snapshot_in pool.now (view value.now)) }
+    ensures gives { Gives result (command_of pool.now (codes "rename_snapshot") (view value.now)) }
+    ensures names { IfOk result (λ c. HasValidNames (call.Command c)) }
 {
+    only_members(alloc, &["op", "name", "old", "new"], value)?;
     let name = member(alloc, &NameIn { pool }, "name", value)?;
     let old = member(alloc, &Text, "old", value)?;
     let new = member(alloc, &Text, "new", value)?;
     Ok(Command::RenameSnapshot { name, old, new })
+}
+
+#[tactic(auto, unfolding(crate::specs::Calls::command_of))]
+fn read_rename(alloc: Global, pool: &Name, value: &Value) -> Result<Command, DocError>
+    ensures gives { Gives result (command_of pool.now (codes "rename") (view value.now)) }
+    ensures names { IfOk result (λ c. HasValidNames (call.Command c)) }
+{
+    only_members(alloc, &["op", "name", "to"], value)?;
+    let name = member(alloc, &NameIn { pool }, "name", value)?;
+    let to = member(alloc, &NameIn { pool }, "to", value)?;
+    Ok(Command::Rename { name, to })
+}
+
+#[tactic(auto, unfolding(crate::specs::Calls::command_of))]
+fn read_set(alloc: Global, pool: &Name, value: &Value) -> Result<Command, DocError>
+    ensures gives { Gives result (command_of pool.now (codes "set") (view value.now)) }
+    ensures names { IfOk result (λ c. HasValidNames (call.Command c)) }
+{
+    only_members(alloc, &["op", "name", "prop", "value"], value)?;
+    let name = member(alloc, &NameIn { pool }, "name", value)?;
+    let prop = member(alloc, &Text, "prop", value)?;
+    let value = member(alloc, &Text, "value", value)?;
+    Ok(Command::Set { name, prop, value })
+}
+
+#[tactic(auto, unfolding(crate::specs::Calls::command_of))]
+fn read_inherit(alloc: Global, pool: &Name, value: &Value) -> Result<Command, DocError>
+    ensures gives { Gives result (command_of pool.now (codes "inherit") (view value.now)) }
+    ensures names { IfOk result (λ c. HasValidNames (call.Command c)) }
+{
+    only_members(alloc, &["op", "name", "prop"], value)?;
+    let name = member(alloc, &NameIn { pool }, "name", value)?;
+    let prop = member(alloc, &Text, "prop", value)?;
+    Ok(Command::Inherit { name, prop })
+}
+
+#[tactic(auto, unfolding(crate::specs::Calls::command_of))]
+fn read_destroy(alloc: Global, pool: &Name, value: &Value) -> Result<Command, DocError>
+    ensures gives { Gives result (command_of pool.now (codes "destroy") (view value.now)) }
+    ensures names { IfOk result (λ c. HasValidNames (call.Command c)) }
+{
+    only_members(alloc, &["op", "name", "defer"], value)?;
+    let name = member(alloc, &NameIn { pool }, "name", value)?;
+    let defer = member_or(alloc, &Flag, false, "defer", value)?;
+    Ok(Command::Destroy { name, defer })
+}
+
+#[tactic(auto, unfolding(crate::specs::Calls::command_of))]
+fn read_hold(alloc: Global, pool: &Name, value: &Value) -> Result<Command, DocError>
+    ensures gives { Gives result (command_of pool.now (codes "hold") (view value.now)) }
+    ensures names { IfOk result (λ c. HasValidNames (call.Command c)) }
+{
+    only_members(alloc, &["op", "name", "tag"], value)?;
+    let name = member(alloc, &NameIn { pool }, "name", value)?;
+    let tag = member(alloc, &Text, "tag", value)?;
+    Ok(Command::Hold { name, tag })
+}
+
+#[tactic(auto, unfolding(crate::specs::Calls::command_of))]
+fn read_release(alloc: Global, pool: &Name, value: &Value) -> Result<Command, DocError>
+    ensures gives { Gives result (command_of pool.now (codes "release") (view value.now)) }
+    ensures names { IfOk result (λ c. HasValidNames (call.Command c)) }
+{
+    only_members(alloc, &["op", "name", "tag"], value)?;
+    let name = member(alloc, &NameIn { pool }, "name", value)?;
+    let tag = member(alloc, &Text, "tag", value)?;
+    Ok(Command::Release { name, tag })
+}
+
+#[tactic(auto, unfolding(crate::specs::Calls::query_of))]
+fn read_exists(alloc: Global, pool: &Name, value: &Value) -> Result<Query, DocError>
+    ensures gives { Gives result (query_of pool.now (codes "exists") (view value.now)) }
+    ensures names { IfOk result (λ q. HasValidNames (call.Query q)) }
+{
+    let name = only_name(alloc, pool, value)?;
+    Ok(Query::Exists { name })
+}
+
+/// Reads the name of a call that has no other field.
+fn only_name(alloc: Global, pool: &Name, value: &Value) -> Result<Name, DocError>
+    ensures gives { Gives result (one (λ name. name) (a_name pool.now (codes "name")) (view value.now)) }
+    ensures valid { IfOk result (λ name. is_valid_name name ≡ true) }
+{
+    only_members(alloc, &["op", "name"], value)?;
+    member(alloc, &NameIn { pool }, "name", value)
 }

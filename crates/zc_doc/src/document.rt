@@ -1,17 +1,18 @@
 //! The document itself, and reading it.
 
-ghost use Rattle.std.specs.Prelude.{◌≡◌, ◌≤◌, All, length, IfOk};
+ghost use Rattle.std.specs.Prelude.{◌≡◌, ◌≤◌, ◌-◌, ◌^◌, All, length, IfOk};
 ghost use Rattle.zp_tree.specs.WellFormed.{IsWellFormed};
 ghost use Rattle.zp_calls.specs.Names.{HasValidNames};
 ghost use Rattle.serde_json.specs.View.{view};
 ghost use Rattle.zc_doc.specs.Reading.{Gives};
 ghost use Rattle.zc_doc.specs.Programs.{AreNamed};
-ghost use Rattle.zc_doc.specs.Document.{has_form, members_wanted, schedule_in, document_members, document_at, document_of, GivesContents, most_bytes, most_calls};
+ghost use Rattle.zc_doc.specs.Document.{schedule_in, document_at, document_of, GivesContents, most_calls};
 
-use crate::call::{CallIn, PoolName};
+use crate::call::{CallIn, CommandIn, PoolName};
 use crate::event::EventOf;
-use crate::program::read_programs;
-use crate::reading::{ArrayWithin, NumberBelow, Reader, has_width, is_empty_array, member};
+use crate::program::Programs;
+use crate::reading::{ArrayOf, NumberIn, Reader, member, member_or, only_members};
+use crate::setup::set_up;
 use crate::{DocError, Program};
 use serde_json::Value;
 use std::alloc::Global;
@@ -23,11 +24,13 @@ use zp_tree::PlainTree;
 /// The greatest number of bytes of a document.
 pub const MOST_BYTES: u64 = 16_777_216;
 
-const MOST_SESSIONS: usize = 16;
+const MOST_SETUP: u64 = 100_000;
 
-const MOST_CALLS: usize = 1_000;
+const MOST_SESSIONS: u64 = 16;
 
-const MOST_EVENTS: usize = 128_000;
+const MOST_CALLS: u64 = 1_000;
+
+const MOST_EVENTS: u64 = 128_000;
 
 /// A document, as it was read.
 #[derive(Drop)]
@@ -36,7 +39,7 @@ pub struct Document {
     pub pool: Name,
     /// The moment of the run, in seconds.
     pub now: u64,
-    /// The tree that the run begins with.
+    /// The tree that the run begins with: after the setup.
     pub tree: PlainTree,
     /// The channel programs, in byte order of their names.
     pub programs: Sequence<Program>,
@@ -55,53 +58,31 @@ pub enum Need {
     Schedule,
 }
 
-/// Reads a document from its bytes. Where its schedule is missing, it has no events.
+/// Reads a document from its bytes, and does its setup. Where its schedule is missing, it has no
+/// events. The refusal is the first: of the length, of the JSON text (RFC 8259), of the members in
+/// their order, of the setup.
 #[tactic(auto, unfolding(crate::specs::Document::document_of))]
 pub fn read_document(alloc: Global, bytes: &[u8], need: Need) -> Result<Document, DocError>
-    requires { length bytes.now ≤ most_bytes }
     ensures document { GivesContents result (document_of need bytes.now) }
-    // What the form says of the document.
+    // What is so of every document.
     ensures well { IfOk result (λ document. IsWellFormed document.tree.tree) }
     ensures programs { IfOk result (λ document. AreNamed document.programs) }
     ensures calls { IfOk result (λ document. All (λ calls. length calls ≤ most_calls) document.sessions) }
     ensures names { IfOk result (λ document. All (All HasValidNames) document.sessions) }
 {
+    let count = bytes.len() as u64;
+    if MOST_BYTES < count {
+        return Err(DocError::TooLong(count));
+    }
     match Value::from_slice(alloc, bytes) {
-        Ok(value) => read_value(alloc, &value, need),
+        Ok(value) => read_members(alloc, &value, need),
         Err(error) if error.is_memory() => Err(DocError::NoMemory),
-        Err(_) => Err(DocError::NotBuilt),
+        Err(_) => Err(DocError::NotJson),
     }
-}
-
-/// How many members there are to be.
-fn members_wanted(value: &Value) -> usize
-    ensures { result ≡ members_wanted (view value.now) }
-{
-    if value.get("schedule").is_some() {
-        6
-    } else {
-        5
-    }
-}
-
-fn has_form(value: &Value) -> bool
-    ensures { result ≡ has_form (view value.now) }
-{
-    has_width(value, members_wanted(value)) && value.get("setup").is_some_and(is_empty_array)
-}
-
-fn read_value(alloc: Global, value: &Value, need: Need) -> Result<Document, DocError>
-    ensures read { GivesContents result (document_at need (view value.now)) }
-    ensures well { IfOk result (λ document. IsWellFormed document.tree.tree) }
-    ensures programs { IfOk result (λ document. AreNamed document.programs) }
-{
-    if !has_form(value) {
-        return Err(DocError::NotBuilt);
-    }
-    read_members(alloc, value, need)
 }
 
 /// Reads the schedule of a document with so many sessions.
+#[tactic(auto, unfolding(crate::specs::Document::schedule_in))]
 fn read_schedule(
     alloc: Global,
     value: &Value,
@@ -110,40 +91,50 @@ fn read_schedule(
 ) -> Result<Sequence<Event>, DocError>
     ensures { Gives result (schedule_in need sessions (view value.now)) }
 {
-    let events = ArrayWithin {
+    let events = ArrayOf {
         limit: MOST_EVENTS,
         item: EventOf { sessions },
     };
-    match (value.get("schedule"), need) {
-        (Some(schedule), _) => events.read(alloc, schedule),
-        (None, Need::Any) => Ok(Sequence::new(alloc)),
-        (None, Need::Schedule) => Err(DocError::NotBuilt),
+    match need {
+        Need::Any => member_or(alloc, &events, Sequence::new(alloc), "schedule", value),
+        Need::Schedule => member(alloc, &events, "schedule", value),
     }
 }
 
-#[tactic(auto, unfolding(crate::specs::Document::document_members))]
+/// Reads the members in their order, and does the setup.
+#[tactic(auto, unfolding(crate::specs::Document::document_at))]
 fn read_members(alloc: Global, value: &Value, need: Need) -> Result<Document, DocError>
-    ensures read { GivesContents result (document_members need (view value.now)) }
+    ensures document { GivesContents result (document_at need (view value.now)) }
     ensures well { IfOk result (λ document. IsWellFormed document.tree.tree) }
     ensures programs { IfOk result (λ document. AreNamed document.programs) }
+    ensures calls { IfOk result (λ document. All (λ calls. length calls ≤ most_calls) document.sessions) }
+    ensures names { IfOk result (λ document. All (All HasValidNames) document.sessions) }
 {
+    let known = ["pool", "now", "setup", "programs", "sessions", "schedule"];
+    only_members(alloc, &known, value)?;
     let pool = member(alloc, &PoolName, "pool", value)?;
-    let now = member(alloc, &NumberBelow { limit: 1 << 63 }, "now", value)?;
-    let programs = match value.get("programs") {
-        Some(programs) => read_programs(alloc, programs)?,
-        None => return Err(DocError::NotBuilt),
+    let moment = NumberIn {
+        low: 0,
+        high: (1 << 63) - 1,
     };
-    let calls = ArrayWithin {
+    let now = member(alloc, &moment, "now", value)?;
+    let commands = ArrayOf {
+        limit: MOST_SETUP,
+        item: CommandIn { pool: &pool },
+    };
+    let setup = member(alloc, &commands, "setup", value)?;
+    let programs = member(alloc, &Programs, "programs", value)?;
+    let calls = ArrayOf {
         limit: MOST_CALLS,
         item: CallIn { pool: &pool },
     };
-    let sessions = ArrayWithin {
+    let sessions = ArrayOf {
         limit: MOST_SESSIONS,
         item: calls,
     };
     let sessions = member(alloc, &sessions, "sessions", value)?;
     let schedule = read_schedule(alloc, value, need, sessions.as_slice().len() as u32)?;
-    let tree = PlainTree::new(alloc, &pool)?;
+    let tree = set_up(alloc, PlainTree::new(alloc, &pool)?, setup.as_slice(), now)?;
     Ok(Document {
         pool,
         now,

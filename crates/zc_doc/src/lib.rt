@@ -1,4 +1,4 @@
-//! The document that says what a run is made of: one JSON object (RFC 8259) with a pool, a moment,
+//! The document that says what a run is made of: one JSON object (RFC 8259) with a pool, a moment, a setup,
 //! channel programs, the calls of each session and a schedule of events.
 #![tactic(auto)]
 
@@ -8,7 +8,8 @@ mod error;
 mod event;
 mod program;
 mod reading;
+mod setup;
 
 pub use document::{Document, MOST_BYTES, Need, read_document};
-pub use error::DocError;
+pub use error::{DocError, Path};
 pub use program::Program;

@@ -4,9 +4,10 @@ ghost use Rattle.std.specs.Prelude.{IfOk};
 ghost use Rattle.std.specs.Str.{IsUtf8};
 ghost use Rattle.serde_json.specs.View.{view, members_view};
 ghost use Rattle.zc_doc.specs.Reading.{Gives};
-ghost use Rattle.zc_doc.specs.Programs.{program_at, programs_in, programs_at, AreNamed};
+ghost use Rattle.zc_doc.specs.Programs.{program_at, programs_in, AreNamed};
 
 use crate::DocError;
+use crate::reading::{Reader, Text};
 use serde_json::{Map, Value};
 use std::alloc::Global;
 use zp_names::{Bytes, Sequence};
@@ -20,20 +21,41 @@ pub struct Program {
     pub text: Bytes,
 }
 
+/// Programs by name, in byte order of the names.
+#[derive(Drop)]
+pub(crate) struct Programs;
+
+impl Reader for Programs {
+    type Out = Sequence<Program>;
+
+    ghost use Rattle.zc_doc.specs.Programs.{programs_at, AreNamed};
+
+    ghost reads = { λ _. programs_at };
+
+    ghost Holds = { λ _ programs. AreNamed programs };
+
+    fn read(&self, alloc: Global, value: &Value) -> Result<Sequence<Program>, DocError> {
+        match value.as_object() {
+            Some(members) => read_each(alloc, members),
+            None => Err(DocError::bad_type(alloc)),
+        }
+    }
+}
+
 fn read_program(alloc: Global, name: &str, value: &Value) -> Result<Program, DocError>
-    ensures read { Gives result (program_at name.now (view value.now)) }
+    ensures gives { Gives result (program_at name.now (view value.now)) }
     ensures name { IfOk result (λ program. IsUtf8 program.name) }
 {
-    let Some(text) = value.as_str() else {
-        return Err(DocError::NotBuilt);
+    let text = match Text.read(alloc, value) {
+        Ok(text) => text,
+        Err(error) => return Err(error.behind(alloc, name)?),
     };
     let name = Sequence::from_bytes(alloc, name.as_bytes())?;
-    let text = Sequence::from_bytes(alloc, text.as_bytes())?;
     Ok(Program { name, text })
 }
 
 fn read_each(alloc: Global, members: &Map<String, Value>) -> Result<Sequence<Program>, DocError>
-    ensures read { Gives result (programs_in (members_view members.now.entries)) }
+    ensures gives { Gives result (programs_in (members_view members.now.entries)) }
     ensures names { IfOk result (λ programs. AreNamed programs) }
 {
     let mut found = Sequence::new(alloc);
@@ -41,15 +63,4 @@ fn read_each(alloc: Global, members: &Map<String, Value>) -> Result<Sequence<Pro
         found.push(read_program(alloc, name.as_str(), value)?)?;
     }
     Ok(found)
-}
-
-/// Reads programs by name, in byte order of the names.
-pub(crate) fn read_programs(alloc: Global, value: &Value) -> Result<Sequence<Program>, DocError>
-    ensures read { Gives result (programs_at (view value.now)) }
-    ensures names { IfOk result (λ programs. AreNamed programs) }
-{
-    match value.as_object() {
-        Some(members) => read_each(alloc, members),
-        None => Err(DocError::NotBuilt),
-    }
 }

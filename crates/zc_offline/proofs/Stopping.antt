@@ -1,5 +1,5 @@
 -- A schedule that is a legal run has no event that is not enabled, and another has one first.
-use Rattle.std.proofs.Common.{◌≡◌, ℕ, ◌<◌, ◌≤◌, zero, suc, ◌⊎◌, List, [], ◌∷◌, ◌++◌, length, map, take, Option, Some, None, refl, sym, ap, subst, ◌∙◌, arith, inl, inr, slice_get}
+use Rattle.std.proofs.Common.{◌≡◌, ℕ, ◌<◌, ◌≤◌, zero, suc, ◌⊎◌, List, [], ◌∷◌, ◌++◌, length, map, take, Option, Some, Result, Ok, Err, refl, sym, ap, subst, ◌∙◌, arith, inl, inr, slice_get}
 use Rattle.std.proofs.lemmas.Grind.{common_steps}
 use Rattle.zp_calls.specs.declared.call.Call.{Call}
 use Rattle.txg_core.specs.Rules.{Origin}
@@ -11,9 +11,17 @@ use Rattle.txg_core.specs.declared.event.Entry.{Entry}
 use Rattle.txg_core.specs.declared.event.Entry.TheVariants as entry
 use Rattle.txg_core.proofs.CallsLemmas.{entry-is, one-history}
 use Rattle.zc_doc.specs.declared.document.Need.TheVariants.{Schedule}
-use Rattle.zc_doc.specs.Document.{Contents, document_of}
+use Rattle.zc_doc.specs.declared.error.DocError.{DocError}
+use Rattle.zc_doc.specs.Document.{Contents}
 use Rattle.zc_offline.specs.Replay.{call_in, StopsAt}
-use Rattle.zc_offline.specs.Headline.{origin_of, IsLegalRun, IsNotEnabled, HasReplayOutput}
+use Rattle.zc_offline.specs.Headline.{document_read, origin_of, IsLegalRun, IsNotEnabled, HasReplayOutput}
+
+-- a document, and a refusal, as what is read of an input
+abbrev pub read-ok : Contents → Result Contents DocError
+read-ok d = Ok d
+
+abbrev pub read-err : DocError → Result Contents DocError
+read-err e = Err e
 
 -- ---- a legal run is enabled at each of its events
 
@@ -73,15 +81,15 @@ runs-or-stops bytes i out stops = go out.1.document stops.document out.1.is stop
         let same = one-history (origin_of doc) (call_in doc.sessions) (take i doc.schedule) at.history s.history before s.before in
         s.refused (subst (λ (g : List (Entry Call)). MayFollow (origin_of doc) (call_in doc.sessions) g s.event) same at.may)
 
-    go : (doc other : Contents) → document_of Schedule bytes ≡ Some doc → document_of Schedule bytes ≡ Some other → (h : List (Entry Call)) → IsLegalRun doc doc.schedule h → StopsAt (origin_of other) other.sessions other.schedule i → ⊥
+    go : (doc other : Contents) → document_read Schedule bytes ≡ Ok doc → document_read Schedule bytes ≡ Ok other → (h : List (Entry Call)) → IsLegalRun doc doc.schedule h → StopsAt (origin_of other) other.sessions other.schedule i → ⊥
     go doc other a b h run s =
-        let both : Some doc ≡ Some other = sym a ∙ b in
+        let both : read-ok doc ≡ read-ok other = sym a ∙ b in
         let is : other ≡ doc = cc in
         meets doc h run (subst (λ (d : Contents). StopsAt (origin_of d) d.sessions d.schedule i) is s)
 
 -- a document is no other
-pub is-or-not : (bytes : List ℕ) → HasReplayOutput bytes → document_of Schedule bytes ≡ None → ⊥
-is-or-not bytes out none = let gone : None ≡ Some out.1.document = sym none ∙ out.1.is in cc
+pub is-or-not : (bytes : List ℕ) (e : DocError) → HasReplayOutput bytes → document_read Schedule bytes ≡ Err e → ⊥
+is-or-not bytes e out none = let gone : read-err e ≡ read-ok out.1.document = sym none ∙ out.1.is in cc
 
 -- ---- one event at most is the first that isn't enabled
 
@@ -120,10 +128,10 @@ one-stop o sessions schedule i k a b = elim (cases_lt i k) [
 -- the bytes are refused for one event
 pub one-refusal : (bytes : List ℕ) (i k : ℕ) → IsNotEnabled bytes i → IsNotEnabled bytes k → k ≡ i
 one-refusal bytes i k a b =
-    let both : Some a.document ≡ Some b.document = sym a.is ∙ b.is in
+    let both : read-ok a.document ≡ read-ok b.document = sym a.is ∙ b.is in
     let is : b.document ≡ a.document = cc in
     one-stop (origin_of a.document) a.document.sessions a.document.schedule i k a.stops (subst (λ (d : Contents). StopsAt (origin_of d) d.sessions d.schedule k) is b.stops)
 
 -- a document that is refused for an event is one
-pub refused-is : (bytes : List ℕ) (i : ℕ) → IsNotEnabled bytes i → document_of Schedule bytes ≡ None → ⊥
-refused-is bytes i stops none = let gone : None ≡ Some stops.document = sym none ∙ stops.is in cc
+pub refused-is : (bytes : List ℕ) (i : ℕ) (e : DocError) → IsNotEnabled bytes i → document_read Schedule bytes ≡ Err e → ⊥
+refused-is bytes i e stops none = let gone : read-err e ≡ read-ok stops.document = sym none ∙ stops.is in cc

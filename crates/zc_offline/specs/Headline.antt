@@ -1,5 +1,5 @@
 -- What a run of a document is, and what each command writes for one.
-use Rattle.std.specs.Prelude.{◌≡◌, ◌<◌, ◌+◌, ◌⊎◌, ℕ, List, length, map, take, Option, Some, None}
+use Rattle.std.specs.Prelude.{◌≡◌, ◌<◌, ◌+◌, ◌⊎◌, ℕ, List, length, map, take, Option, Result, Ok, Err}
 use Rattle.std.specs.Io.KnownBytes.{Appends, IsAtEnd}
 use Rattle.zc_io.specs.Reading.{TakesFirst}
 use Rattle.zp_tree.specs.Tree.{Tree}
@@ -17,7 +17,7 @@ use Rattle.pool_object.specs.Histories.{pool_origin}
 use Rattle.zc_doc.specs.declared.document.Need.{Need}
 use Rattle.zc_doc.specs.declared.document.Need.TheVariants.{Any, Schedule}
 use Rattle.zc_doc.specs.declared.error.DocError.{DocError}
-use Rattle.zc_doc.specs.declared.error.DocError.TheVariants.{NotBuilt, NoMemory}
+use Rattle.zc_doc.specs.declared.error.DocError.TheVariants.{NoMemory}
 use Rattle.zc_doc.specs.Document.{Contents, document_of, most_bytes}
 use Rattle.zc_offline.specs.Replay.{call_in, all_given, StopsAt}
 use Rattle.zc_offline.specs.LoadResults.{IsCheckOf}
@@ -25,6 +25,11 @@ use Rattle.zc_offline.specs.declared.words.Asked.{Asked}
 use Rattle.zc_offline.specs.declared.words.Asked.TheVariants.{Replay, Check}
 use Rattle.zc_offline.specs.declared.status.Status.{Status}
 use Rattle.zc_offline.specs.declared.status.Status.TheVariants as status
+
+-- the document that is read of an input, where this is needed of it, or its first refusal: of an input that is too long
+-- one byte more than a document may have is read
+unfoldable pub document_read : Need → List ℕ → Result Contents DocError
+document_read need input = document_of need (take (most_bytes + 1) input)
 
 -- where a run of the document begins: its tree and its moment, and the number of calls of each session
 abbrev pub origin_of : Contents → Origin Tree Call Reply
@@ -40,33 +45,33 @@ pub record IsLegalRun (doc : Contents) (events : List Event) (h : List (Entry Ca
 abbrev pub run_output : Contents → List (Entry Call) → List ℕ
 run_output doc h = output_text (journal_of h) (all_given (origin_of doc) h) (synced h) (world (origin_of doc) h).records
 
--- the text is the output of the run that the document's schedule asks for, where the bytes are the document
-pub record IsReplayOutput (bytes text : List ℕ) : Type 0 where
+-- the text is the output of the run that the document's schedule asks for, where the input is the document
+pub record IsReplayOutput (input text : List ℕ) : Type 0 where
   pub document : Contents
-  pub is : document_of Schedule bytes ≡ Some document
+  pub is : document_read Schedule input ≡ Ok document
   pub history : List (Entry Call)
   pub run : IsLegalRun document document.schedule history
   pub text_is : text ≡ run_output document history
 
--- the bytes are a document whose schedule is a legal run
+-- the input is a document whose schedule is a legal run
 abbrev pub HasReplayOutput : List ℕ → Type 0
-HasReplayOutput bytes = (text : List ℕ) × IsReplayOutput bytes text
+HasReplayOutput input = (text : List ℕ) × IsReplayOutput input text
 
--- the bytes are no document that has what is needed, for this reason
-abbrev pub IsNotDocument : Need → List ℕ → DocError → Type 0
-IsNotDocument need bytes NotBuilt = document_of need bytes ≡ None
-IsNotDocument need bytes NoMemory = ⊥
+-- this is the first refusal of the input; want of memory is none
+abbrev pub IsRefusedFor : Need → List ℕ → DocError → Type 0
+IsRefusedFor need input NoMemory = ⊥
+IsRefusedFor need input e = document_read need input ≡ Err e
 
 -- event i of the document's schedule is the first that is not enabled after those before it
-pub record IsNotEnabled (bytes : List ℕ) (i : ℕ) : Type 0 where
+pub record IsNotEnabled (input : List ℕ) (i : ℕ) : Type 0 where
   pub document : Contents
-  pub is : document_of Schedule bytes ≡ Some document
+  pub is : document_read Schedule input ≡ Ok document
   pub stops : StopsAt (origin_of document) document.sessions document.schedule i
 
--- the text is the output of a check of the document that the bytes are
-pub record IsCheckOutput (bytes text : List ℕ) : Type 0 where
+-- the text is the output of a check of the document that the input is
+pub record IsCheckOutput (input text : List ℕ) : Type 0 where
   pub document : Contents
-  pub is : document_of Any bytes ≡ Some document
+  pub is : document_read Any input ≡ Ok document
   pub check : IsCheckOf document text
 
 -- ---- what each command gives, a row a command
@@ -76,15 +81,15 @@ abbrev pub need_of : Asked → Need
 need_of Replay = Schedule
 need_of Check = Any
 
--- the text is what is written for the bytes
+-- the text is what is written for the input
 abbrev pub IsOutput : Asked → List ℕ → List ℕ → Type 0
-IsOutput Replay bytes text = IsReplayOutput bytes text
-IsOutput Check bytes text = IsCheckOutput bytes text
+IsOutput Replay input text = IsReplayOutput input text
+IsOutput Check input text = IsCheckOutput input text
 
--- nothing in the bytes is refused: they are a document, for a replay one whose schedule is a legal run
+-- nothing in the input is refused: it is a document, for a replay one whose schedule is a legal run
 abbrev pub IsAccepted : Asked → List ℕ → Type 0
-IsAccepted Replay bytes = HasReplayOutput bytes
-IsAccepted Check bytes = (document : Contents) × (document_of Any bytes ≡ Some document)
+IsAccepted Replay input = HasReplayOutput input
+IsAccepted Check input = (document : Contents) × (document_read Any input ≡ Ok document)
 
 -- the events of the schedule are done
 abbrev pub DoesSchedule : Asked → Type 0
@@ -93,17 +98,17 @@ DoesSchedule Check = ⊥
 
 -- event i of the schedule explains why there is no output
 abbrev pub IsStopped : Asked → List ℕ → ℕ → Type 0
-IsStopped Replay bytes i = IsNotEnabled bytes i
-IsStopped Check bytes i = ⊥
+IsStopped Replay input i = IsNotEnabled input i
+IsStopped Check input i = ⊥
 
 -- ---- what a run does, whatever is asked
 
 -- why there is no output
 abbrev pub Explains : Asked → List ℕ → Status → Type 0
-Explains a bytes (status.BadDocument e) = IsNotDocument (need_of a) bytes e
-Explains a bytes (status.NotEnabled i) = IsStopped a bytes i
-Explains a bytes status.NoMemory = Unit {0}
-Explains a bytes _ = ⊥
+Explains a input (status.BadDocument e) = IsRefusedFor (need_of a) input e
+Explains a input (status.NotEnabled i) = IsStopped a input i
+Explains a input status.NoMemory = Unit {0}
+Explains a input _ = ⊥
 
 -- what the command writes for the input was written
 pub record Writes (a : Asked) (before after : Option (List ℕ)) (input : List ℕ) : Type 0 where

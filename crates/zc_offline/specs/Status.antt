@@ -1,7 +1,7 @@
 -- The numbers with which a process ends, and how a run ends that has no document.
 use Rattle.std.specs.Prelude.{ℕ}
 use Rattle.zc_doc.specs.declared.error.DocError.{DocError}
-use Rattle.zc_doc.specs.declared.error.DocError.TheVariants.{NotBuilt, NoMemory}
+use Rattle.zc_doc.specs.declared.error.DocError.TheVariants.{NoMemory}
 use Rattle.zc_offline.specs.declared.status.Status.{Status}
 use Rattle.zc_offline.specs.declared.status.Status.TheVariants as status
 
@@ -15,5 +15,5 @@ code_of status.WriteFault = 6
 code_of status.NoMemory = 7
 
 abbrev pub refusal_status : DocError → Status
-refusal_status NotBuilt = status.BadDocument NotBuilt
 refusal_status NoMemory = status.NoMemory
+refusal_status e = status.BadDocument e

@@ -1,16 +1,19 @@
 //! How a run of the program ends.
 
+ghost use Rattle.std.specs.Prelude.{◌≡◌};
+ghost use Rattle.zc_offline.specs.Status.{refusal_status};
+
 use std::fmt;
 use zc_doc::DocError;
 
 /// How a run of the program ended.
-#[derive(Clone, Copy, Debug, PartialEq, Eq, Drop)]
+#[derive(Debug, Drop)]
 pub enum Status {
     /// All was written.
     Ok,
     /// The words ask for nothing that the program does; nothing was read.
     Usage,
-    /// The document is refused.
+    /// The document is refused, for its first refusal.
     BadDocument(DocError),
     /// This event of the schedule, from 0, is the first that is not enabled after those before it.
     NotEnabled(u64),
@@ -43,29 +46,23 @@ impl Status {
 }
 
 /// How a run ends that has no document.
-impl From<DocError> for Status {
-    ghost use Rattle.std.specs.Prelude.{◌≡◌};
-    ghost use Rattle.zc_offline.specs.Status.{refusal_status};
-
-    ghost from_gives = { λ error status. status ≡ refusal_status error };
-
-    fn from(error: DocError) -> Status {
-        match error {
-            DocError::NotBuilt => Status::BadDocument(DocError::NotBuilt),
-            DocError::NoMemory => Status::NoMemory,
-        }
+pub(crate) fn refusal_status(error: DocError) -> Status
+    ensures { result ≡ refusal_status error }
+{
+    match error {
+        DocError::NoMemory => Status::NoMemory,
+        refusal => Status::BadDocument(refusal),
     }
 }
 
 /// The fault line.
 impl fmt::Display for Status {
-    ghost use Rattle.std.specs.Prelude.{Some};
     ghost use Rattle.zc_offline.specs.FaultLines.{fault_line};
 
-    ghost output = { λ status. Some (fault_line status) };
+    ghost output = { fault_line };
 
     fn fmt<W: fmt::Write>(&self, f: &mut fmt::Formatter<W>) -> fmt::Result {
-        match *self {
+        match self {
             Status::Ok => Ok(()),
             Status::Usage => write!(
                 f,

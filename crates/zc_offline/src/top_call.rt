@@ -1,31 +1,50 @@
 //! The top call.
 
-ghost use Rattle.std.specs.Prelude.{◌≡◌, ◌≢◌, ◌≤◌, ◌↔◌, ◌⊎◌, ℕ, List, length, Some, None, IfSome, MatchResult};
+ghost use Rattle.std.specs.Prelude.{◌≡◌, ◌≢◌, ◌≤◌, ◌↔◌, ◌⊎◌, ℕ, List, length, All, Some, None, IfSome, IfOk, IfErr, MatchResult};
 ghost use Rattle.std.specs.Io.KnownBytes.{Keeps};
 ghost use Rattle.zc_io.specs.Causes.{Rose};
-ghost use Rattle.zc_doc.specs.Document.{most_bytes, document_of};
+ghost use Rattle.zp_tree.specs.WellFormed.{IsWellFormed};
+ghost use Rattle.zp_calls.specs.Names.{HasValidNames};
+ghost use Rattle.zc_doc.specs.Programs.{AreNamed};
+ghost use Rattle.zc_doc.specs.Document.{most_bytes, most_calls, contents_of};
 ghost use Rattle.zc_doc.specs.declared.error.DocError.{DocError as DocErrorOf};
-ghost use Rattle.zc_doc.specs.declared.error.DocError.TheVariants as doc_error;
 ghost use Rattle.zc_offline.specs.Words.{asked};
-ghost use Rattle.zc_offline.specs.Headline.{need_of, IsOutput, IsAccepted, DoesSchedule, IsNotDocument, IsStopped, HasRead, Explains, Writes, WritesFront};
+ghost use Rattle.zc_offline.specs.Headline.{document_read, need_of, IsOutput, IsAccepted, DoesSchedule, IsRefusedFor, IsStopped, HasRead, Explains, Writes, WritesFront};
 ghost use Rattle.zc_offline.specs.declared.words.Asked.{Asked as AskedOf};
 
 use crate::Status;
 use crate::load_results::check_output;
 use crate::replay::{Halt, replay};
+use crate::status::refusal_status;
 use crate::words::{Asked, read_words};
 use pool_object::{Pool, histories_keep_trees_well_formed};
 use std::alloc::Global;
-use zc_doc::{DocError, MOST_BYTES, Need, read_document};
+use zc_doc::{DocError, Document, MOST_BYTES, read_document};
 use zc_io::{ReadFailure, Sink, Source, read_all, write_all};
 use zc_reply::render;
+
+/// Reads the document that is asked for, or tells how a run without one ends.
+fn read_input(alloc: Global, asked: &Asked, bytes: &[u8]) -> Result<Document, Status>
+    requires { length bytes.now ≤ most_bytes }
+    ensures document { IfOk result (λ document. document_read (need_of asked.now) bytes.now ≡ Ok (contents_of document)) }
+    ensures well { IfOk result (λ document. IsWellFormed document.tree.tree) }
+    ensures programs { IfOk result (λ document. AreNamed document.programs) }
+    ensures calls { IfOk result (λ document. All (λ calls. length calls ≤ most_calls) document.sessions) }
+    ensures names { IfOk result (λ document. All (All HasValidNames) document.sessions) }
+    ensures refused { IfErr result (λ status. Explains asked.now bytes.now status) }
+{
+    match read_document(alloc, bytes, asked.need()) {
+        Ok(document) => Ok(document),
+        Err(error) => Err(refusal_status(error)),
+    }
+}
 
 /// The output of the run that a document's schedule asks for, or why there is none.
 fn replay_document(alloc: Global, bytes: &[u8]) -> Result<Vec<u8>, Status>
     requires { length bytes.now ≤ most_bytes }
     ensures { MatchResult result (λ output. IsOutput Asked.Replay bytes.now output.items) (λ status. Explains Asked.Replay bytes.now status) }
 {
-    let document = read_document(alloc, bytes, Need::Schedule)?;
+    let document = read_input(alloc, &Asked::Replay, bytes)?;
     let run = match replay(
         alloc,
         Pool::new(document.tree, document.now),
@@ -56,7 +75,7 @@ fn check_document(alloc: Global, bytes: &[u8]) -> Result<Vec<u8>, Status>
     requires { length bytes.now ≤ most_bytes }
     ensures { MatchResult result (λ output. IsOutput Asked.Check bytes.now output.items) (λ status. Explains Asked.Check bytes.now status) }
 {
-    let document = read_document(alloc, bytes, Need::Any)?;
+    let document = read_input(alloc, &Asked::Check, bytes)?;
     match check_output(alloc, &document) {
         Ok(output) => Ok(output),
         Err(_) => Err(Status::NoMemory),
@@ -78,11 +97,11 @@ fn output(alloc: Global, asked: &Asked, bytes: &[u8]) -> Result<Vec<u8>, Status>
 fn serve<S: Source, K: Sink>(alloc: Global, asked: &Asked, source: &mut S, sink: &mut K) -> Status
     ensures done { result ≡ Status.Ok → IfSome (S.left source.old) (λ input. Writes asked.now (K.written sink.old) (K.written sink.new) input) }
     ensures usage { result ≢ Status.Usage }
-    ensures document { (e : DocErrorOf) → result ≡ Status.BadDocument e → IfSome (S.left source.old) (λ input. IsNotDocument (need_of asked.now) input e) }
+    ensures document { (e : DocErrorOf) → result ≡ Status.BadDocument e → IfSome (S.left source.old) (λ input. IsRefusedFor (need_of asked.now) input e) }
     ensures schedule { (i : ℕ) → result ≡ Status.NotEnabled i → DoesSchedule asked.now }
     ensures event { (i : ℕ) → result ≡ Status.NotEnabled i → IfSome (S.left source.old) (λ input. IsStopped asked.now input i) }
-    ensures refused { (input : List ℕ) → S.left source.old ≡ Some input → document_of (need_of asked.now) input ≡ None →
-        ¬ Rose (S.faults source.old) (S.faults source.new) → (result ≡ Status.BadDocument doc_error.NotBuilt) ⊎ (result ≡ Status.NoMemory) }
+    ensures refused { (input : List ℕ) (e : DocErrorOf) → S.left source.old ≡ Some input → IsRefusedFor (need_of asked.now) input e →
+        ¬ Rose (S.faults source.old) (S.faults source.new) → (result ≡ Status.BadDocument e) ⊎ (result ≡ Status.NoMemory) }
     ensures stopped { (input : List ℕ) (i : ℕ) → S.left source.old ≡ Some input → IsStopped asked.now input i →
         ¬ Rose (S.faults source.old) (S.faults source.new) → (result ≡ Status.NotEnabled i) ⊎ (result ≡ Status.NoMemory) }
     ensures ended { HasRead result (S.left source.old) (S.left source.new) }
@@ -98,7 +117,9 @@ fn serve<S: Source, K: Sink>(alloc: Global, asked: &Asked, source: &mut S, sink:
     let bytes = match read_all(alloc, source, MOST_BYTES) {
         Ok(bytes) => bytes,
         Err(ReadFailure::Fault) => return Status::ReadFault,
-        Err(ReadFailure::TooLong(_)) => return Status::BadDocument(DocError::NotBuilt),
+        Err(ReadFailure::TooLong(_)) => return Status::BadDocument(DocError::TooLong(
+            MOST_BYTES + 1,
+        )),
         Err(ReadFailure::NoMemory) => return Status::NoMemory,
     };
     let output = match output(alloc, asked, bytes.as_slice()) {
@@ -132,17 +153,17 @@ pub fn offline<S: Source, K: Sink>(
     ensures usage { (result ≡ Status.Usage) ↔ (asked words.now ≡ None) }
     ensures unread { result ≡ Status.Usage → source.new ≡ source.old }
 
-    // The document, or the event of its schedule, that is refused. Only a command that does the
-    // events of a schedule refuses one.
+    // The first refusal of the document, or the event of its schedule that is refused. Only a command
+    // that does the events of a schedule refuses one.
     ensures document { (a : AskedOf) (e : DocErrorOf) → asked words.now ≡ Some a → result ≡ Status.BadDocument e →
-        IfSome (S.left source.old) (λ input. IsNotDocument (need_of a) input e) }
+        IfSome (S.left source.old) (λ input. IsRefusedFor (need_of a) input e) }
     ensures schedule { (a : AskedOf) (i : ℕ) → asked words.now ≡ Some a → result ≡ Status.NotEnabled i → DoesSchedule a }
     ensures event { (a : AskedOf) (i : ℕ) → asked words.now ≡ Some a → result ≡ Status.NotEnabled i →
         IfSome (S.left source.old) (λ input. IsStopped a input i) }
 
     // Both come for sure where their cause is there, but for want of memory.
-    ensures refused { (a : AskedOf) (input : List ℕ) → asked words.now ≡ Some a → S.left source.old ≡ Some input → document_of (need_of a) input ≡ None →
-        ¬ Rose (S.faults source.old) (S.faults source.new) → (result ≡ Status.BadDocument doc_error.NotBuilt) ⊎ (result ≡ Status.NoMemory) }
+    ensures refused { (a : AskedOf) (input : List ℕ) (e : DocErrorOf) → asked words.now ≡ Some a → S.left source.old ≡ Some input → IsRefusedFor (need_of a) input e →
+        ¬ Rose (S.faults source.old) (S.faults source.new) → (result ≡ Status.BadDocument e) ⊎ (result ≡ Status.NoMemory) }
     ensures stopped { (a : AskedOf) (input : List ℕ) (i : ℕ) → asked words.now ≡ Some a → S.left source.old ≡ Some input → IsStopped a input i →
         ¬ Rose (S.faults source.old) (S.faults source.new) → (result ≡ Status.NotEnabled i) ⊎ (result ≡ Status.NoMemory) }
 

@@ -1,7 +1,10 @@
 //! The words of the command line.
 
 ghost use Rattle.std.specs.Prelude.{◌≡◌};
+ghost use Rattle.zc_offline.specs.Headline.{need_of};
 ghost use Rattle.zc_offline.specs.Words.{without_arguments, command_asked, asked};
+
+use zc_doc::Need;
 
 /// What the words ask for.
 #[derive(Debug, PartialEq, Eq, Drop)]
@@ -10,6 +13,18 @@ pub(crate) enum Asked {
     Replay,
     /// The channel programs of a document are loaded.
     Check,
+}
+
+impl Asked {
+    /// What is needed of a document.
+    pub(crate) fn need(&self) -> Need
+        ensures { result ≡ need_of self.now }
+    {
+        match self {
+            Asked::Replay => Need::Schedule,
+            Asked::Check => Need::Any,
+        }
+    }
 }
 
 fn without_arguments(asked: Asked, arguments: &[String]) -> Option<Asked>

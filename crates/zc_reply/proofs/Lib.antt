@@ -1,4 +1,3 @@
 mod Ordered
 pub mod NoFloat
-mod Texts
 pub mod Telling

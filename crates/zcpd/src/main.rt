@@ -36,7 +36,7 @@ fn main(rt: HostRuntime) -> ExitCode {
         }
         Err(status) => status,
     };
-    if status != Status::Ok {
+    if !matches!(status, Status::Ok) {
         let _ = eprintln!(rt; "{status}");
     }
     ExitCode::from(status.code())

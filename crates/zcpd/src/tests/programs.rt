@@ -70,7 +70,7 @@ const LIMITS_OUTPUT: &str =
 fn tells_which_texts_load(rt: HostRuntime) -> Result<(), Fail> {
     for (document, output) in [(LOADING, LOADING_OUTPUT), (REFUSED, REFUSED_OUTPUT)] {
         let (status, written) = run(rt.alloc(), "check", document)?;
-        assert_eq!(rt; status, Status::Ok);
+        assert!(rt; matches!(status, Status::Ok));
         assert!(rt; written.as_slice() == output.as_bytes(), "{document}");
     }
     Ok(())
@@ -98,7 +98,7 @@ fn limits(alloc: Global) -> Result<String, AllocError> {
 fn keeps_the_limits_of_a_text(rt: HostRuntime) -> Result<(), Fail> {
     let document = limits(rt.alloc())?;
     let (status, written) = run(rt.alloc(), "check", document.as_str())?;
-    assert_eq!(rt; status, Status::Ok);
+    assert!(rt; matches!(status, Status::Ok));
     assert!(rt; written.as_slice() == LIMITS_OUTPUT.as_bytes());
     Ok(())
 }

@@ -1,21 +1,33 @@
-use Rattle.std.proofs.Common.{◌≡◌, ◌∙◌, List, ℕ, None, inr}
-use Rattle.zc_doc.specs.Document.{document_of}
-use Rattle.zc_offline.specs.Headline.{need_of}
-use Rattle.zc_offline.proofs.Answer.{refused-long, no-document, there, no-output, explained, stopped-explained, stopped-is, refused-explained, refused-writes-nothing, stopped-does, stopped-writes-nothing, took-one-more}
+use Rattle.std.proofs.Common.{◌≡◌, ◌∙◌, ◌+◌, List, ℕ, None, ap, sym, inl, inr}
+use Rattle.zc_doc.specs.declared.error.DocError.{DocError}
+use Rattle.zc_doc.specs.declared.error.DocError.TheVariants.{TooLong}
+use Rattle.zc_doc.specs.Document.{most_bytes}
+use Rattle.zc_offline.specs.declared.status.Status.TheVariants as status
+use Rattle.zc_offline.specs.Headline.{need_of, IsRefusedFor}
+use Rattle.zc_offline.proofs.Answer.{refused-long, refused-so, one-error, there, no-output, explained, stopped-explained, stopped-is, refused-explained, refused-writes-nothing, stopped-does, stopped-writes-nothing, took-one-more}
 use Rattle.zc_offline.proofs.top_call.serve.Goals as goal
 
 pub returns-in-Err-TooLong-clause-document : goal.returns-in-Err-TooLong-clause-document
 returns-in-Err-TooLong-clause-document g c = λ e same.
     let is = c.in-Err-TooLong.field-0-is in
     let long = c.in-Err-TooLong.ensures.too_long c.in-Err-TooLong.field-0-0 cc in
-    no-document (need_of c.args.asked.now) e _ same (refused-long (need_of c.args.asked.now) c.in-Err-TooLong.field-0-0 _ _ long.0 long.1)
+    refused-so (need_of c.args.asked.now) e (TooLong (most_bytes + 1)) _ same (refused-long (need_of c.args.asked.now) c.in-Err-TooLong.field-0-0 _ _ long.0 long.1)
+
+pub returns-in-Err-TooLong-clause-refused : goal.returns-in-Err-TooLong-clause-refused
+returns-in-Err-TooLong-clause-refused g c = λ input e left refused read.
+    let is = c.in-Err-TooLong.field-0-is in
+    let long = c.in-Err-TooLong.ensures.too_long c.in-Err-TooLong.field-0-0 cc in
+    let n = need_of c.args.asked.now in
+    let so = there (λ (x : List ℕ). IsRefusedFor n x (TooLong (most_bytes + 1))) _ input left (refused-long n c.in-Err-TooLong.field-0-0 _ _ long.0 long.1) in
+    inl (ap (λ (d : DocError). status.BadDocument d) (one-error n input e (TooLong (most_bytes + 1)) refused so))
 
 pub returns-in-Err-TooLong-clause-complete : goal.returns-in-Err-TooLong-clause-complete
 returns-in-Err-TooLong-clause-complete g c = λ input left out read write.
     let is = c.in-Err-TooLong.field-0-is in
     let long = c.in-Err-TooLong.ensures.too_long c.in-Err-TooLong.field-0-0 cc in
-    let none = refused-long (need_of c.args.asked.now) c.in-Err-TooLong.field-0-0 _ _ long.0 long.1 in
-    absurd (no-output c.args.asked.now input (there (λ (x : List ℕ). document_of (need_of c.args.asked.now) x ≡ None) _ input left none) out)
+    let n = need_of c.args.asked.now in
+    let so = there (λ (x : List ℕ). IsRefusedFor n x (TooLong (most_bytes + 1))) _ input left (refused-long n c.in-Err-TooLong.field-0-0 _ _ long.0 long.1) in
+    absurd (no-output c.args.asked.now input (TooLong (most_bytes + 1)) so out)
 
 pub returns-in-Err-clause-complete : goal.returns-in-Err-clause-complete
 returns-in-Err-clause-complete g c = λ input left out read write.
@@ -26,8 +38,9 @@ pub returns-in-Err-TooLong-clause-stopped : goal.returns-in-Err-TooLong-clause-s
 returns-in-Err-TooLong-clause-stopped g c = λ input i left stops read.
     let is = c.in-Err-TooLong.field-0-is in
     let long = c.in-Err-TooLong.ensures.too_long c.in-Err-TooLong.field-0-0 cc in
-    let none = refused-long (need_of c.args.asked.now) c.in-Err-TooLong.field-0-0 _ _ long.0 long.1 in
-    absurd (stopped-is c.args.asked.now input i stops (there (λ (x : List ℕ). document_of (need_of c.args.asked.now) x ≡ None) _ input left none))
+    let n = need_of c.args.asked.now in
+    let so = there (λ (x : List ℕ). IsRefusedFor n x (TooLong (most_bytes + 1))) _ input left (refused-long n c.in-Err-TooLong.field-0-0 _ _ long.0 long.1) in
+    absurd (stopped-is c.args.asked.now input i (TooLong (most_bytes + 1)) stops so)
 
 pub returns-in-Err-TooLong-clause-ended : goal.returns-in-Err-TooLong-clause-ended
 returns-in-Err-TooLong-clause-ended g c =
@@ -51,19 +64,19 @@ returns-clause-stopped g c = λ input i left stops read.
     absurd (stopped-writes-nothing c.args.asked.now input c.as_slice.result.now _ i (c.as_slice.ensures.value ∙ all) stops c.in-Ok-output.ensures)
 
 pub returns-in-Err-clause-refused : goal.returns-in-Err-clause-refused
-returns-in-Err-clause-refused g c = λ input left none read.
+returns-in-Err-clause-refused g c = λ input e left refused read.
     let all = there (λ (x : List ℕ). c.in-Ok.bytes.items ≡ x) _ input left c.in-Ok.ensures.all in
-    refused-explained c.args.asked.now input c.as_slice.result.now c.in-Err.status (c.as_slice.ensures.value ∙ all) none c.in-Err.ensures
+    refused-explained c.args.asked.now input c.as_slice.result.now e c.in-Err.status (c.as_slice.ensures.value ∙ all) refused c.in-Err.ensures
 
 pub returns-in-Ok-write_all-clause-refused : goal.returns-in-Ok-write_all-clause-refused
-returns-in-Ok-write_all-clause-refused g c = λ input left none read.
+returns-in-Ok-write_all-clause-refused g c = λ input e left refused read.
     let all = there (λ (x : List ℕ). c.in-Ok.bytes.items ≡ x) _ input left c.in-Ok.ensures.all in
-    absurd (refused-writes-nothing c.args.asked.now input c.as_slice.result.now _ (c.as_slice.ensures.value ∙ all) none c.in-Ok-output.ensures)
+    absurd (refused-writes-nothing c.args.asked.now input c.as_slice.result.now _ e (c.as_slice.ensures.value ∙ all) refused c.in-Ok-output.ensures)
 
 pub returns-clause-refused : goal.returns-clause-refused
-returns-clause-refused g c = λ input left none read.
+returns-clause-refused g c = λ input e left refused read.
     let all = there (λ (x : List ℕ). c.in-Ok.bytes.items ≡ x) _ input left c.in-Ok.ensures.all in
-    absurd (refused-writes-nothing c.args.asked.now input c.as_slice.result.now _ (c.as_slice.ensures.value ∙ all) none c.in-Ok-output.ensures)
+    absurd (refused-writes-nothing c.args.asked.now input c.as_slice.result.now _ e (c.as_slice.ensures.value ∙ all) refused c.in-Ok-output.ensures)
 
 pub returns-in-Err-clause-schedule : goal.returns-in-Err-clause-schedule
 returns-in-Err-clause-schedule g c = λ i same. stopped-does c.args.asked.now c.as_slice.result.now c.in-Err.status i c.in-Err.ensures same

@@ -1,4 +1,4 @@
-use Rattle.zc_reply.proofs.Texts.{valid_short_utf8}
+use Rattle.zp_names.proofs.ShortNames.{valid_short_utf8}
 use Rattle.zc_reply.proofs.record.full_name.Goals as goal
 
 pub text_of-requires : goal.text_of-requires

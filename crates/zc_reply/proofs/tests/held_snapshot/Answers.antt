@@ -8,7 +8,7 @@ use Rattle.zp_names.specs.Names.{is_valid_short}
 use Rattle.zp_props.specs.declared.setting.Setting.{Setting}
 use Rattle.zp_props.specs.Settings.{AreSettings}
 use Rattle.zp_tree.specs.declared.item.Hold.{Hold}
-use Rattle.zc_reply.proofs.Texts.{valid_short_utf8}
+use Rattle.zp_names.proofs.ShortNames.{valid_short_utf8}
 use Rattle.zc_reply.proofs.tests.held_snapshot.Goals as goal
 
 -- no settings

@@ -7,7 +7,7 @@ use Rattle.zp_names.specs.Names.{is_valid_short}
 use Rattle.zp_props.specs.declared.setting.Setting.{Setting}
 use Rattle.zp_props.specs.declared.setting.PropValue.TheVariants.{Number, Text}
 use Rattle.zp_props.specs.Settings.{AreSettings, IsValue}
-use Rattle.zc_reply.proofs.Texts.{valid_short_utf8}
+use Rattle.zp_names.proofs.ShortNames.{valid_short_utf8}
 use Rattle.zc_reply.proofs.tests.settings.Goals as goal
 
 -- two settings with these names
