@@ -18,7 +18,7 @@ use Rattle.lua_meaning.specs.Numbers.{fits}
 use Rattle.lua_meaning.specs.Heap.{ClosureOf, metamethod, text_bytes}
 use Rattle.lua_meaning.specs.Store.{ThreadOf, Store, store, CallOf, Resumptions, Result, Go, Halt, Breaks, Jumps, Returns, Raises, Stops, Yields, OutOfFuel, state_of, with_state, call_of, with_call, heap_of, below_of}
 use Rattle.lua_meaning.specs.Code.{Code}
-use Rattle.lua_meaning.specs.Runs.{Run, go, tick, fails, line_at}
+use Rattle.lua_meaning.specs.Runs.{Run, go, tick, fails, line_at, at_line}
 use Rattle.lua_meaning.specs.Locals.{cut, local_count, captured_locals}
 use Rattle.lua_meaning.specs.Jobs.{Job, Apply, Look, Put, Turn, Round, Count, Each, From, Answer, Values, Raise, Stopped, CallThen, Resume, Yield, HostOf, Again, Resumes as ResumesOf}
 use Rattle.lua_meaning.specs.Operators.{binary, unary}
@@ -109,11 +109,11 @@ module _ {H : Type 0} (host : HostOf H) (code : Code) (resumes : ResumesOf H) (l
         (declare_by_fed l u (code.is_captured v) v (value.Int at) _ (nodes u e block) s r h)
         (λ d s' r h. count_next_fed u e (fits (at +ℤ step)) v block (at +ℤ step) limit step (cut (local_count s) s') r (cut_ready l u (local_count s) s' h))
 
-    each_with_fed : (u : ℕ) → Enough u → (control : Value) (v n : ℕ) (block : Tree) (f state : Value) (lines : List ℕ) (xs : List Value) → Runs l u (each_with code again control v n block f state lines xs)
-    each_with_fed u e value.Nil v n block f state lines xs = λ s r h. h
-    each_with_fed u e control v n block f state lines xs = λ s r h. after_fed l u _ _
+    each_with_fed : (u : ℕ) → Enough u → (control : Value) (v n : ℕ) (block : Tree) (f state : Value) (line : ℕ) (xs : List Value) → Runs l u (each_with code again control v n block f state line xs)
+    each_with_fed u e value.Nil v n block f state line xs = λ s r h. h
+    each_with_fed u e control v n block f state line xs = λ s r h. after_fed l u _ _
         (declare_all_fed code l u v n xs _ (nodes u e block) s r h)
-        (λ d s' r h. tick_fed l u _ (fed u e (Each v n block f state control lines)) (cut (local_count s) s') r (cut_ready l u (local_count s) s' h))
+        (λ d s' r h. tick_fed l u _ (fed u e (Each v n block f state control line)) (cut (local_count s) s') r (cut_ready l u (local_count s) s' h))
 
     body_fed : (u : ℕ) → Enough u → (t : Tree) (c : ClosureOf) (args : List Value) (inner : List ℕ) → Runs l u (enter_function host code again resumes t c args inner)
     body_fed u e (syntax.Function n line params vararg block) c args inner s r h = body_ends_fed l u (call_of s) _
@@ -164,7 +164,7 @@ module _ {H : Type 0} (host : HostOf H) (code : Code) (resumes : ResumesOf H) (l
     work_fed u e (Turn test block) = turn_fed u e test block
     work_fed u e (Round block test) = round_fed u e block test
     work_fed u e (Count v block at limit step) = count_turn_fed u e v block at limit step
-    work_fed u e (Each v n block f state control lines) = λ s r h. after_fed l u _ _ (apply_fed u e f (state ∷ control ∷ []) lines lines s r h) (λ xs. each_with_fed u e (first xs) v n block f state lines xs)
+    work_fed u e (Each v n block f state control line) = λ s r h. after_fed l u _ _ (apply_fed u e f (state ∷ control ∷ []) (at_line line s) (at_line line s) s r h) (λ xs. each_with_fed u e (first xs) v n block f state line xs)
     work_fed u e (From stats part outer) = λ s r h. landed_fed code again l Enough more fed u e stats outer _ (statements_fed code again l Enough more fed (helped code again l Enough more fed) u e part (go []) (λ s r h. h) s r h)
 
   module _ (Enough : ℕ → ℕ → Type 0)

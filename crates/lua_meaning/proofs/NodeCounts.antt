@@ -19,7 +19,8 @@ use Rattle.lua_meaning.specs.Code.{Code, from_label}
 use Rattle.lua_meaning.specs.Runs.{Run, go, halt, after, tick, fails, if_few, at_line, put, new_closure, new_table}
 use Rattle.lua_meaning.specs.Locals.{locals_of, slot_of, cells_in, declare, declare_all}
 use Rattle.lua_meaning.specs.Jobs.{Again, Job, Apply, Count, From}
-use Rattle.lua_meaning.specs.Nodes.{Target, slot_target, eval, statements, each_first, expressions, targets_of, target_of, choose, maybe_eval, step_of, each_field, all_fields, landed, by_truth, jump_to, call, store_one, store_all, goes_on, count, start_count, put_items, only_first, logic}
+use Rattle.lua_meaning.specs.declared.variable.Target.{Target}
+use Rattle.lua_meaning.specs.Nodes.{slot_target, eval, statements, each_first, expressions, targets_of, target_of, choose, maybe_eval, step_of, each_field, all_fields, landed, by_truth, jump_to, call, store_one, store_all, makes_turn, count, start_count, put_items, only_first, logic}
 use Rattle.lua_meaning.proofs.Counts.{Plan, Ready, Fed, Runs, less, less_fed, after_fed, tick_to, tick_fed, fails_fed, cut_ready, closed_fed, loop_ends_fed}
 
 module _ {H : Type 0} where
@@ -77,12 +78,12 @@ module _ {H : Type 0} where
       pub tables : (u : ℕ) (k : ℕ → Run H) → ((t : ℕ) → Runs l u (k t)) → Runs l u (new_table k)
 
     module _ (helped : Helped) where
-      store_all_fed : (u : ℕ) → Enough u → (ts : List Target) (xs : List Value) (lines : List ℕ) → Runs l u (store_all code again ts xs lines)
-      store_all_fed u e [] xs lines s r h = h
-      store_all_fed u e (t ∷ ts) xs lines s r h = after_fed l u _ _ (helped.stores u e t (first xs) lines s r h) (λ d. store_all_fed u e ts (drop 1 xs) lines)
+      store_all_fed : (u : ℕ) → Enough u → (ts : List Target) (xs : List Value) (line : ℕ) → Runs l u (store_all code again ts xs line)
+      store_all_fed u e [] xs line s r h = h
+      store_all_fed u e (t ∷ ts) xs line s r h = after_fed l u _ _ (helped.stores u e t (first xs) (at_line line s) s r h) (λ d. store_all_fed u e ts (drop 1 xs) line)
 
       pub count_fed : (u : ℕ) → Enough u → (v : ℕ) (block : Tree) (at to step : ℤ) → Runs l u (count code again v block at to step)
-      count_fed u e v block at to step = by (goes_on code again at to step)
+      count_fed u e v block at to step = by (makes_turn at to step)
         where
           by : (t : Bool) → Runs l u (if t then tick (again (Count v block at to step)) else go [])
           by true = tick_fed l u _ (fed u e _)
@@ -102,7 +103,7 @@ module _ {H : Type 0} where
         pub eval_fed : (u : ℕ) → Enough u → (t : Tree) → Runs l u (eval code again t)
         eval_fed u e (syntax.Block i l' stats) = tick_fed l u _ (λ s r h. closed_fed l (u + 1) _ _ (landed_fed (u + 1) (more u e) stats _ _ (statements_fed (u + 1) (more u e) stats _ (λ s r h. h) s r h)))
         eval_fed u e (syntax.Local i l' names exps) = tick_fed l u _ (expressions_fed (u + 1) (more u e) exps _ (λ vs. helped.declares (u + 1) (code.first_variable i) (length names) vs (go []) (λ s r h. h)))
-        eval_fed u e (syntax.Assign i l' targets exps) = tick_fed l u _ (λ s r h. targets_fed (u + 1) (more u e) targets _ (λ ts. expressions_fed (u + 1) (more u e) exps _ (λ vs. store_all_fed (u + 1) (more u e) ts vs (at_line l' s))) s r h)
+        eval_fed u e (syntax.Assign i l' targets exps) = tick_fed l u _ (targets_fed (u + 1) (more u e) targets _ (λ ts. expressions_fed (u + 1) (more u e) exps _ (λ vs. store_all_fed (u + 1) (more u e) ts vs l')))
         eval_fed u e (syntax.CallStat i l' inner) = tick_fed l u _ (eval_fed (u + 1) (more u e) inner)
         eval_fed u e (syntax.Do i l' block) = tick_fed l u _ (eval_fed (u + 1) (more u e) block)
         eval_fed u e (syntax.While i l' test block) = tick_fed l u _ (λ s r h. loop_ends_fed l (u + 1) _ _ (tick_fed l (u + 1) _ (fed (u + 1) (more u e) _) s r h))
@@ -126,7 +127,7 @@ module _ {H : Type 0} where
         eval_fed u e (syntax.Logic i l' op left right) = tick_fed l u _ (λ s r h. after_fed l (u + 1) _ _ (eval_fed (u + 1) (more u e) left s r h) (λ a. logic_fed (u + 1) op (first a) _ (eval_fed (u + 1) (more u e) right)))
         eval_fed u e (syntax.Unary i l' op operand) = tick_fed l u _ (λ s r h. after_fed l (u + 1) _ _ (eval_fed (u + 1) (more u e) operand s r h) (λ a s r h. helped.unaries (u + 1) (more u e) op (first a) (at_line l' s) s r h))
         eval_fed u e (syntax.Paren i l' inner) = tick_fed l u _ (λ s r h. after_fed l (u + 1) _ _ (eval_fed (u + 1) (more u e) inner s r h) (λ vs s r h. h))
-        eval_fed u e (syntax.Table i l' fields) = tick_fed l u _ (helped.tables (u + 1) (λ t s. all_fields code again fields t (at_line l' s) (go (value.Table t ∷ [])) s) (λ t s r h. all_fields_fed (u + 1) (more u e) fields t (at_line l' s) (go (value.Table t ∷ [])) (λ s r h. h) s r h))
+        eval_fed u e (syntax.Table i l' fields) = tick_fed l u _ (helped.tables (u + 1) (λ t. all_fields code again fields t l' (go (value.Table t ∷ []))) (λ t. all_fields_fed (u + 1) (more u e) fields t l' (go (value.Table t ∷ [])) (λ s r h. h)))
         eval_fed u e syntax.Missing = λ s r h. h
 
         pub statements_fed : (u : ℕ) → Enough u → (ts : Trees) (k : Run H) → Runs l u k → Runs l u (statements code again ts k)
@@ -162,14 +163,14 @@ module _ {H : Type 0} where
         step_fed u e syntax.absent = λ s r h. h
         step_fed u e (syntax.present t) = eval_fed u e t
 
-        each_field_fed : (u : ℕ) → Enough u → (fs : Fields) (t : ℕ) (lines : List ℕ) (k : ℕ → Run H) → ((j : ℕ) → Runs l u (k j)) → Runs l u (each_field code again fs t lines k)
-        each_field_fed u e syntax.no_field t lines k f = f 1
-        each_field_fed u e (syntax.item fs v) t lines k f = each_field_fed u e fs t lines _ (λ j s r h. after_fed l u _ _ (eval_fed u e v s r h) (λ ws. items_fed u lines t j (first ws ∷ []) k f))
-        each_field_fed u e (syntax.named fs name v) t lines k f = each_field_fed u e fs t lines _ (λ j s r h. after_fed l u _ _ (eval_fed u e v s r h) (λ ws. helped.puts u lines t (value.Text name) (first ws) (k j) (f j)))
-        each_field_fed u e (syntax.keyed fs key v) t lines k f = each_field_fed u e fs t lines _ (λ j s r h. after_fed l u _ _ (eval_fed u e key s r h) (λ i s r h. after_fed l u _ _ (eval_fed u e v s r h) (λ ws. helped.puts u lines t (first i) (first ws) (k j) (f j))))
+        each_field_fed : (u : ℕ) → Enough u → (fs : Fields) (t line : ℕ) (k : ℕ → Run H) → ((j : ℕ) → Runs l u (k j)) → Runs l u (each_field code again fs t line k)
+        each_field_fed u e syntax.no_field t line k f = f 1
+        each_field_fed u e (syntax.item fs v) t line k f = each_field_fed u e fs t line _ (λ j s r h. after_fed l u _ _ (eval_fed u e v s r h) (λ ws s r h. items_fed u (at_line line s) t j (first ws ∷ []) k f s r h))
+        each_field_fed u e (syntax.named fs name v) t line k f = each_field_fed u e fs t line _ (λ j s r h. after_fed l u _ _ (eval_fed u e v s r h) (λ ws s r h. helped.puts u (at_line line s) t (value.Text name) (first ws) (k j) (f j) s r h))
+        each_field_fed u e (syntax.keyed fs key v) t line k f = each_field_fed u e fs t line _ (λ j s r h. after_fed l u _ _ (eval_fed u e key s r h) (λ i s r h. after_fed l u _ _ (eval_fed u e v s r h) (λ ws s r h. helped.puts u (at_line line s) t (first i) (first ws) (k j) (f j) s r h)))
 
-        all_fields_fed : (u : ℕ) → Enough u → (fs : Fields) (t : ℕ) (lines : List ℕ) (k : Run H) → Runs l u k → Runs l u (all_fields code again fs t lines k)
-        all_fields_fed u e syntax.no_field t lines k f = f
-        all_fields_fed u e (syntax.item fs v) t lines k f = each_field_fed u e fs t lines _ (λ j s r h. after_fed l u _ _ (eval_fed u e v s r h) (λ ws. items_fed u lines t j ws (λ i. k) (λ i. f)))
-        all_fields_fed u e (syntax.named fs name v) t lines k f = each_field_fed u e fs t lines _ (λ j s r h. after_fed l u _ _ (eval_fed u e v s r h) (λ ws. helped.puts u lines t (value.Text name) (first ws) k f))
-        all_fields_fed u e (syntax.keyed fs key v) t lines k f = each_field_fed u e fs t lines _ (λ j s r h. after_fed l u _ _ (eval_fed u e key s r h) (λ i s r h. after_fed l u _ _ (eval_fed u e v s r h) (λ ws. helped.puts u lines t (first i) (first ws) k f)))
+        all_fields_fed : (u : ℕ) → Enough u → (fs : Fields) (t line : ℕ) (k : Run H) → Runs l u k → Runs l u (all_fields code again fs t line k)
+        all_fields_fed u e syntax.no_field t line k f = f
+        all_fields_fed u e (syntax.item fs v) t line k f = each_field_fed u e fs t line _ (λ j s r h. after_fed l u _ _ (eval_fed u e v s r h) (λ ws s r h. items_fed u (at_line line s) t j ws (λ i. k) (λ i. f) s r h))
+        all_fields_fed u e (syntax.named fs name v) t line k f = each_field_fed u e fs t line _ (λ j s r h. after_fed l u _ _ (eval_fed u e v s r h) (λ ws s r h. helped.puts u (at_line line s) t (value.Text name) (first ws) k f s r h))
+        all_fields_fed u e (syntax.keyed fs key v) t line k f = each_field_fed u e fs t line _ (λ j s r h. after_fed l u _ _ (eval_fed u e key s r h) (λ i s r h. after_fed l u _ _ (eval_fed u e v s r h) (λ ws s r h. helped.puts u (at_line line s) t (first i) (first ws) k f s r h)))

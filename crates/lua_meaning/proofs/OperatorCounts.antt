@@ -13,14 +13,17 @@ use Rattle.lua_meaning.specs.Values.{first, is_nil, is_function, same, type_name
 use Rattle.lua_meaning.specs.Numbers.{to_int, as_text, Numbers, both, not_both, numbers, Worked, number, refused, work_out}
 use Rattle.lua_meaning.specs.Tables.{was_put}
 use Rattle.lua_meaning.specs.Heap.{HeapOf, ClosureOf, table_at, with_entry, with_cell, with_table, with_closure, cell_bytes, key_bytes, table_bytes, metamethod, entry, text_bytes}
-use Rattle.lua_meaning.specs.Store.{Cell, store, heap_of, with_heap}
+use Rattle.lua_meaning.specs.declared.variable.Slot.TheVariants as slot
+use Rattle.lua_meaning.specs.declared.variable.Target.{Target}
+use Rattle.lua_meaning.specs.declared.variable.Target.TheVariants as target
+use Rattle.lua_meaning.specs.Store.{store, heap_of, with_heap}
 use Rattle.lua_meaning.specs.Code.{Code}
 use Rattle.lua_meaning.specs.Runs.{Run, go, put_by, put, new_table, new_closure, error_text, attempt_text}
 use Rattle.lua_meaning.specs.Locals.{declare_by, declare_all, with_local}
 use Rattle.lua_meaning.specs.Jobs.{Again, Job, Apply, Look, Put}
 use Rattle.lua_meaning.specs.Operators.{Op, OpAnswer, Done, Meta, Raise, Stopped, Texts, texts, not_texts, two_texts, either, event, first_without, done, op_fails_on, fails_compare, op_charge, op_ticks, op_fails, by_meta_or, worked, arith as arith_op, concat, negative, less as less_op, less_or_same, equal, common, own_length, len, told, negated_if, binary_op, unary_op, by_meta, answered_op, operate}
 use Rattle.lua_meaning.specs.Indexing.{look, look_in, look_by, look_further, string_table, put_at, put_over, put_else, put_further}
-use Rattle.lua_meaning.specs.Nodes.{Target, ToLocal, ToCell, ToGlobal, ToEntry, Nowhere, store_one, eval}
+use Rattle.lua_meaning.specs.Nodes.{store_one, eval}
 use Rattle.lua_ast.specs.Tree.{Tree}
 use Rattle.lua_meaning.proofs.Counts.{Plan, Counted, Runs, less_counted, ticked_counted, charged_counted, tick_fed, charge_fed, fails_fed, after_fed}
 use Rattle.lua_meaning.proofs.NodeCounts.{Helped, eval_fed}
@@ -41,7 +44,7 @@ module _ {H : Type 0} where
   pub declare_by_fed : (l : Plan H) (u : ℕ) (q : Bool) (v : ℕ) (x : Value) (k : Run H) → Runs l u k → Runs l u (declare_by q v x k)
   declare_by_fed l u true v x k f s r h = charge_fed l u cell_bytes _ inner s r h
     where
-      inner : Runs l u (λ s. k (with_local v (Cell (length (heap_of s).cells)) (with_heap (with_cell (heap_of s) x) s)))
+      inner : Runs l u (λ s. k (with_local v (slot.Cell (length (heap_of s).cells)) (with_heap (with_cell (heap_of s) x) s)))
       inner (store y b c rs) r h = f _ r (record { counts = h.counts; others = h.others })
   declare_by_fed l u false v x k f (store y b c rs) r h = f _ r (record { counts = h.counts; others = h.others })
 
@@ -202,11 +205,11 @@ module _ {H : Type 0} (code : Code) (again : Again H) (l : Plan H) (Enough : ℕ
   put_at_fed u e o key x lines = fails_fed l u lines _
 
   store_one_fed : (u : ℕ) → Enough u → (t : Target) (x : Value) (lines : List ℕ) → Runs l u (store_one code again t x lines)
-  store_one_fed u e (ToLocal v) x lines (store y b c rs) r h = record { counts = h.counts; others = h.others }
-  store_one_fed u e (ToCell i) x lines (store y b c rs) r h = record { counts = h.counts; others = h.others }
-  store_one_fed u e (ToGlobal name) x lines s r h = put_fed l u lines 0 (value.Text name) x (go []) (λ s r h. h) s r h
-  store_one_fed u e (ToEntry o key) x lines s r h = put_at_fed u e o key x lines s r h
-  store_one_fed u e Nowhere x lines s r h = h
+  store_one_fed u e (target.Local v) x lines (store y b c rs) r h = record { counts = h.counts; others = h.others }
+  store_one_fed u e (target.Cell i) x lines (store y b c rs) r h = record { counts = h.counts; others = h.others }
+  store_one_fed u e (target.Global name) x lines s r h = put_fed l u lines 0 (value.Text name) x (go []) (λ s r h. h) s r h
+  store_one_fed u e (target.Entry o key) x lines s r h = put_at_fed u e o key x lines s r h
+  store_one_fed u e target.Nowhere x lines s r h = h
 
   pub helped : Helped code again l Enough more fed
   helped = record {

@@ -4,13 +4,14 @@ use Rattle.std.specs.Prelude.{ℕ, ◌+◌, nat_le, Bool, true, false, List, [],
 use Rattle.lua_ast.specs.Tree.{Tree, Function}
 use Rattle.lua_meaning.specs.declared.value.Value.{Value}
 use Rattle.lua_meaning.specs.declared.value.Value.TheVariants as value
+use Rattle.lua_meaning.specs.declared.variable.Slot.{Slot}
 use Rattle.lua_meaning.specs.declared.status.CoStatus.{CoStatus}
 use Rattle.lua_meaning.specs.declared.status.CoStatus.TheVariants as status
 use Rattle.lua_meaning.specs.declared.status.After.{After}
 use Rattle.lua_meaning.specs.declared.status.After.TheVariants.{FirstThree, OneText}
 use Rattle.lua_meaning.specs.Values.{first}
 use Rattle.lua_meaning.specs.Heap.{ClosureOf, metamethod}
-use Rattle.lua_meaning.specs.Store.{State, Store, CallOf, Slot, Result, Go, Halt, Breaks, Jumps, Returns, Raises, Stops, state_of, with_state, heap_of, below_of, call_of, with_call}
+use Rattle.lua_meaning.specs.Store.{State, Store, CallOf, Result, Go, Halt, Breaks, Jumps, Returns, Raises, Stops, state_of, with_state, heap_of, below_of, call_of, with_call}
 use Rattle.lua_meaning.specs.Code.{Code}
 use Rattle.lua_meaning.specs.Runs.{Run, go, halt, tick, line_at, fails, fails_on, if_few}
 use Rattle.lua_meaning.specs.Locals.{captured_locals, declare_all}

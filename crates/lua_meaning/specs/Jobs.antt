@@ -18,7 +18,7 @@ pub data Job : Type 0 where
   Turn : (test block : Tree) → Job
   Round : (block test : Tree) → Job
   Count : (variable : ℕ) (block : Tree) (at limit step : ℤ) → Job
-  Each : (variable count : ℕ) (block : Tree) (function state control : Value) (lines : List ℕ) → Job
+  Each : (variable count : ℕ) (block : Tree) (function state control : Value) (line : ℕ) → Job
   -- the statements of a block from a label on
   From : (stats part : Trees) (outer : ℕ) → Job
 

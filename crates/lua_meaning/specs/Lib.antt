@@ -16,3 +16,4 @@ pub mod Calls
 pub mod Loops
 pub mod Programs
 pub mod Laws
+pub mod Texts

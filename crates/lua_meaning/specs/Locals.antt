@@ -1,10 +1,13 @@
 -- The locals of the call in progress (Lua 5.2 manual, 3.2 and 3.5). A local that some inner function captures is shared with it and costs memory; another one lives in the call, at no cost.
-use Rattle.std.specs.Prelude.{ℕ, zero, suc, ◌+◌, ◌==◌, Bool, true, false, List, [], ◌∷◌, ◌++◌, length, take, drop, map, find, if◌then◌else◌, Option, Some, None, option_map}
+use Rattle.std.specs.Prelude.{ℕ, zero, suc, ◌+◌, ◌==◌, Bool, true, false, List, [], ◌∷◌, ◌++◌, length, take, drop, map, find, Option, Some, None, option_map, slice_set}
+use Rattle.std.specs.List.{position}
 use Rattle.lua_meaning.specs.declared.value.Value.{Value}
 use Rattle.lua_meaning.specs.declared.value.Value.TheVariants as value
+use Rattle.lua_meaning.specs.declared.variable.Slot.{Slot}
+use Rattle.lua_meaning.specs.declared.variable.Slot.TheVariants as slot
 use Rattle.lua_meaning.specs.Values.{first}
 use Rattle.lua_meaning.specs.Heap.{cell_at, entry}
-use Rattle.lua_meaning.specs.Store.{Store, Slot, Held, Cell, call_of, with_call, heap_of}
+use Rattle.lua_meaning.specs.Store.{Store, call_of, with_call, heap_of}
 use Rattle.lua_meaning.specs.Code.{Code}
 use Rattle.lua_meaning.specs.Runs.{Run, new_cell}
 
@@ -15,13 +18,17 @@ Locals = List (ℕ × Slot)
 abbrev pub slot_of : Locals → ℕ → Option Slot
 slot_of ls v = option_map (λ l. l.1) (find (λ l. l.0 == v) ls)
 
+abbrev pub held_at : Option ℕ → Locals → ℕ → Value → Locals
+held_at None ls v x = ls
+held_at (Some i) ls v x = slice_set ls i (v, slot.Held x)
+
 -- with another value in a variable that lives in the call
 abbrev pub with_held : Locals → ℕ → Value → Locals
-with_held ls v x = map (λ l. if l.0 == v then (v, Held x) else l) ls
+with_held ls v x = held_at (position (λ l. l.0 == v) ls) ls v x
 
 -- the shared variable of a local that some function captures
 abbrev pub cell_in : Option Slot → ℕ
-cell_in (Some (Cell i)) = i
+cell_in (Some (slot.Cell i)) = i
 cell_in _ = 0
 
 -- what a function captures: the shared variables of these locals
@@ -32,7 +39,7 @@ cells_in ls vs = map (λ v. cell_in (slot_of ls v)) vs
 abbrev pub captured_locals : List ℕ → List ℕ → Locals
 captured_locals [] is = []
 captured_locals (v ∷ vs) [] = []
-captured_locals (v ∷ vs) (i ∷ is) = (v, Cell i) ∷ captured_locals vs is
+captured_locals (v ∷ vs) (i ∷ is) = (v, slot.Cell i) ∷ captured_locals vs is
 
 module _ {H : Type 0} where
   abbrev pub locals_of : Store H → Locals
@@ -52,8 +59,8 @@ module _ {H : Type 0} where
   with_local v slot s = with_locals (locals_of s ++ (v, slot) ∷ []) s
 
   abbrev pub slot_value : Option Slot → Store H → Value
-  slot_value (Some (Held x)) s = x
-  slot_value (Some (Cell i)) s = cell_at (heap_of s) i
+  slot_value (Some (slot.Held x)) s = x
+  slot_value (Some (slot.Cell i)) s = cell_at (heap_of s) i
   slot_value None s = value.Nil
 
   -- what a name stands for: a local, or a field of the globals
@@ -63,8 +70,8 @@ module _ {H : Type 0} where
 
   -- one more local with this value, and then `k`
   abbrev pub declare_by : Bool → ℕ → Value → Run H → Run H
-  declare_by true v x k = new_cell x (λ i s. k (with_local v (Cell i) s))
-  declare_by false v x k = λ s. k (with_local v (Held x) s)
+  declare_by true v x k = new_cell x (λ i s. k (with_local v (slot.Cell i) s))
+  declare_by false v x k = λ s. k (with_local v (slot.Held x) s)
 
 module _ {H : Type 0} (code : Code) where
   abbrev pub declare : ℕ → Value → Run H → Run H

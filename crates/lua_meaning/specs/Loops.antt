@@ -36,7 +36,7 @@ module _ {H : Type 0} (code : Code) (again : Again H) where
       after (declare code v (value.Int at) (eval code again block) s r) (λ d s'. count_next (fits (at +ℤ step)) v block (at +ℤ step) limit step (cut (local_count s) s'))
 
   -- A turn of a generic `for`, after the call of its function. The first result is the next control value; nil ends the loop.
-  abbrev pub each_with : (control : Value) → (v n : ℕ) → Tree → (function state : Value) → List ℕ → List Value → Run H
-  each_with value.Nil v n block f state lines xs = go []
-  each_with control v n block f state lines xs = λ s r.
-      after (declare_all code v n xs (eval code again block) s r) (λ d s'. tick (again (Each v n block f state control lines)) (cut (local_count s) s'))
+  abbrev pub each_with : (control : Value) → (v n : ℕ) → Tree → (function state : Value) → (line : ℕ) → List Value → Run H
+  each_with value.Nil v n block f state l xs = go []
+  each_with control v n block f state l xs = λ s r.
+      after (declare_all code v n xs (eval code again block) s r) (λ d s'. tick (again (Each v n block f state control l)) (cut (local_count s) s'))

@@ -6,10 +6,14 @@ use Rattle.lua_ast.specs.declared.node.LogicOp.TheVariants as logic_op
 use Rattle.lua_ast.specs.Tree.{Tree, Block, Local, Assign, CallStat, Do, While, Repeat, If, NumFor, GenFor, LocalFunction, Return, Break, Goto, Label, Const, Vararg, Function, Name, Index, Call, Method, Binary, Logic, Unary, Paren, Table, Missing, Trees, none, snoc, Cases, no_case, case, Maybe, absent, present, Fields, no_field, item, named, keyed}
 use Rattle.lua_meaning.specs.declared.value.Value.{Value}
 use Rattle.lua_meaning.specs.declared.value.Value.TheVariants as value
+use Rattle.lua_meaning.specs.declared.variable.Slot.{Slot}
+use Rattle.lua_meaning.specs.declared.variable.Slot.TheVariants as slot
+use Rattle.lua_meaning.specs.declared.variable.Target.{Target}
+use Rattle.lua_meaning.specs.declared.variable.Target.TheVariants as target
 use Rattle.lua_meaning.specs.Values.{first, truth, of_literal}
 use Rattle.lua_meaning.specs.Numbers.{to_int}
 use Rattle.lua_meaning.specs.Heap.{set_cell}
-use Rattle.lua_meaning.specs.Store.{Store, Slot, Cell, Result, Go, Halt, Breaks, Jumps, Returns, call_of, heap_of, with_heap}
+use Rattle.lua_meaning.specs.Store.{Store, Result, Go, Halt, Breaks, Jumps, Returns, call_of, heap_of, with_heap}
 use Rattle.lua_meaning.specs.Code.{Code, from_label, locals_before}
 use Rattle.lua_meaning.specs.Runs.{Run, go, halt, after, tick, at_line, fails, if_few, new_table, new_closure, put}
 use Rattle.lua_meaning.specs.Locals.{locals_of, with_locals, with_held, slot_of, cells_in, local_count, cut, named as value_named, declare, declare_all}
@@ -17,21 +21,17 @@ use Rattle.lua_meaning.specs.Jobs.{Again, Apply, Turn, Round, Count, Each, From}
 use Rattle.lua_meaning.specs.Operators.{binary, unary}
 use Rattle.lua_meaning.specs.Indexing.{look, put_at}
 
--- where a value is stored
-pub data Target : Type 0 where
-  ToLocal : ℕ → Target
-  ToCell : ℕ → Target
-  ToGlobal : List ℕ → Target
-  ToEntry : (object key : Value) → Target
-  Nowhere : Target
-
 abbrev pub slot_target : ℕ → Option Slot → Target
-slot_target v (Some (Cell i)) = ToCell i
-slot_target v _ = ToLocal v
+slot_target v (Some (slot.Cell i)) = target.Cell i
+slot_target v _ = target.Local v
+
+-- a numeric loop makes a turn while the value has not passed the limit
+abbrev pub makes_turn : (at limit step : ℤ) → Bool
+makes_turn at limit step = if int_lt (pos 0) step then not (int_lt limit at) else not (int_lt at limit)
 
 module _ {H : Type 0} where
   abbrev pub name_target : Option ℕ → List ℕ → Store H → Target
-  name_target None name s = ToGlobal name
+  name_target None name s = target.Global name
   name_target (Some v) name s = slot_target v (slot_of (locals_of s) v)
 
   -- another value in a local that lives in the call
@@ -65,11 +65,11 @@ module _ {H : Type 0} where
   logic logic_op.And a right = by_truth a (only_first right) (go (a ∷ []))
   logic logic_op.Or a right = by_truth a (go (a ∷ [])) (only_first right)
 
-  abbrev pub named_field : ℕ → List ℕ → (value : Run H) → List ℕ → Run H → Run H
-  named_field t name v lines k = λ s r. after (v s r) (λ ws. put lines t (value.Text name) (first ws) k)
+  abbrev pub named_field : ℕ → List ℕ → (value : Run H) → (line : ℕ) → Run H → Run H
+  named_field t name v l k = λ s r. after (v s r) (λ ws s. put (at_line l s) t (value.Text name) (first ws) k s)
 
-  abbrev pub keyed_field : ℕ → (key value : Run H) → List ℕ → Run H → Run H
-  keyed_field t key v lines k = λ s r. after (key s r) (λ i s r. after (v s r) (λ ws. put lines t (first i) (first ws) k))
+  abbrev pub keyed_field : ℕ → (key value : Run H) → (line : ℕ) → Run H → Run H
+  keyed_field t key v l k = λ s r. after (key s r) (λ i s r. after (v s r) (λ ws s. put (at_line l s) t (first i) (first ws) k s))
 
 module _ {H : Type 0} (code : Code) (again : Again H) where
   -- A jump to a label of the block, or out of it where it has none of this name (3.3.4). `outer` locals were in scope where the block began.
@@ -85,23 +85,19 @@ module _ {H : Type 0} (code : Code) (again : Again H) where
 
   -- an assignment to one target (3.3.3)
   abbrev pub store_one : Target → Value → List ℕ → Run H
-  store_one (ToLocal v) x lines = hold v x
-  store_one (ToCell i) x lines = λ s. go [] (with_heap (set_cell (heap_of s) i x) s)
-  store_one (ToGlobal name) x lines = put lines 0 (value.Text name) x (go [])
-  store_one (ToEntry o key) x lines = put_at again o key x lines
-  store_one Nowhere x lines = go []
+  store_one (target.Local v) x lines = hold v x
+  store_one (target.Cell i) x lines = λ s. go [] (with_heap (set_cell (heap_of s) i x) s)
+  store_one (target.Global name) x lines = put lines 0 (value.Text name) x (go [])
+  store_one (target.Entry o key) x lines = put_at again o key x lines
+  store_one target.Nowhere x lines = go []
 
   -- from left to right
-  abbrev pub store_all : List Target → List Value → List ℕ → Run H
-  store_all [] xs lines = go []
-  store_all (t ∷ ts) xs lines = λ s r. after (store_one t (first xs) lines s r) (λ d. store_all ts (drop 1 xs) lines)
-
-  -- a numeric loop makes a turn while the value has not passed the limit
-  abbrev pub goes_on : (at limit step : ℤ) → Bool
-  goes_on at limit step = if int_lt (pos 0) step then not (int_lt limit at) else not (int_lt at limit)
+  abbrev pub store_all : List Target → List Value → (line : ℕ) → Run H
+  store_all [] xs l = go []
+  store_all (t ∷ ts) xs l = λ s r. after (store_one t (first xs) (at_line l s) s r) (λ d. store_all ts (drop 1 xs) l)
 
   abbrev pub count : ℕ → Tree → (at limit step : ℤ) → Run H
-  count v block at limit step = if goes_on at limit step then tick (again (Count v block at limit step)) else go []
+  count v block at limit step = if makes_turn at limit step then tick (again (Count v block at limit step)) else go []
 
   abbrev pub start_count : ℕ → Tree → Option ℤ → Option ℤ → Option ℤ → List ℕ → Run H
   start_count v block (Some at) (Some limit) (Some step) lines = count v block at limit step
@@ -115,7 +111,7 @@ module _ {H : Type 0} (code : Code) (again : Again H) where
     pub eval : Tree → Run H
     eval (Block n l stats) = tick (λ s r. closed (local_count s) (landed stats (local_count s) (statements stats (go []) s r)))
     eval (Local n l names exps) = tick (expressions exps (λ vs. declare_all code (code.first_variable n) (length names) vs (go [])))
-    eval (Assign n l targets exps) = tick (λ s. targets_of targets (λ ts. expressions exps (λ vs. store_all ts vs (at_line l s))) s)
+    eval (Assign n l targets exps) = tick (targets_of targets (λ ts. expressions exps (λ vs. store_all ts vs l)))
     eval (CallStat n l inner) = tick (eval inner)
     eval (Do n l block) = tick (eval block)
     eval (While n l test block) = tick (λ s r. loop_ends (local_count s) (tick (again (Turn test block)) s r))
@@ -126,7 +122,7 @@ module _ {H : Type 0} (code : Code) (again : Again H) where
         loop_ends (local_count s) (start_count (code.first_variable n) block (to_int (first a)) (to_int (first b)) (to_int (first c)) (at_line l s) s r)))))
     eval (GenFor n l names exps block) =
         tick (expressions exps (λ vs s r.
-        loop_ends (local_count s) (tick (again (Each (code.first_variable n) (length names) block (first vs) (first (drop 1 vs)) (first (drop 2 vs)) (at_line l s))) s r)))
+        loop_ends (local_count s) (tick (again (Each (code.first_variable n) (length names) block (first vs) (first (drop 1 vs)) (first (drop 2 vs)) l)) s r)))
     eval (LocalFunction n l name function) =
         tick (declare code (code.first_variable n) value.Nil (λ s r. after (eval function s r) (λ vs s r.
         store_one (slot_target (code.first_variable n) (slot_of (locals_of s) (code.first_variable n))) (first vs) (at_line l s) s r)))
@@ -150,7 +146,7 @@ module _ {H : Type 0} (code : Code) (again : Again H) where
     eval (Logic n l op left right) = tick (λ s r. after (eval left s r) (λ a. logic op (first a) (eval right)))
     eval (Unary n l op operand) = tick (λ s r. after (eval operand s r) (λ a s. unary again op (first a) (at_line l s) s))
     eval (Paren n l inner) = tick (λ s r. after (eval inner s r) (λ vs. go (first vs ∷ [])))
-    eval (Table n l fields) = tick (new_table (λ t s. all_fields fields t (at_line l s) (go (value.Table t ∷ [])) s))
+    eval (Table n l fields) = tick (new_table (λ t. all_fields fields t l (go (value.Table t ∷ []))))
     eval Missing = go []
 
     -- the statements of a block, and then `k`
@@ -174,8 +170,8 @@ module _ {H : Type 0} (code : Code) (again : Again H) where
 
     pub target_of : Tree → (Target → Run H) → Run H
     target_of (Name n l name) k = tick (λ s. k (name_target (code.variable n) name s) s)
-    target_of (Index n l object key) k = tick (λ s r. after (eval object s r) (λ o s r. after (eval key s r) (λ i. k (ToEntry (first o) (first i)))))
-    target_of _ k = k Nowhere
+    target_of (Index n l object key) k = tick (λ s r. after (eval object s r) (λ o s r. after (eval key s r) (λ i. k (target.Entry (first o) (first i)))))
+    target_of _ k = k target.Nowhere
 
     -- the block of the first test that holds
     pub choose : Cases → Run H → Run H
@@ -191,18 +187,18 @@ module _ {H : Type 0} (code : Code) (again : Again H) where
     step_of (present t) = eval t
 
     -- fields in turn: `n` is the next whole number
-    pub each_field : Fields → ℕ → List ℕ → (ℕ → Run H) → Run H
-    each_field no_field t lines k = k 1
-    each_field (item fs v) t lines k = each_field fs t lines (λ n s r. after (eval v s r) (λ ws. put_items lines t n (first ws ∷ []) k))
-    each_field (named fs name v) t lines k = each_field fs t lines (λ n. named_field t name (eval v) lines (k n))
-    each_field (keyed fs key v) t lines k = each_field fs t lines (λ n. keyed_field t (eval key) (eval v) lines (k n))
+    pub each_field : Fields → ℕ → (line : ℕ) → (ℕ → Run H) → Run H
+    each_field no_field t l k = k 1
+    each_field (item fs v) t l k = each_field fs t l (λ n s r. after (eval v s r) (λ ws s. put_items (at_line l s) t n (first ws ∷ []) k s))
+    each_field (named fs name v) t l k = each_field fs t l (λ n. named_field t name (eval v) l (k n))
+    each_field (keyed fs key v) t l k = each_field fs t l (λ n. keyed_field t (eval key) (eval v) l (k n))
 
     -- the last field may give several values
-    pub all_fields : Fields → ℕ → List ℕ → Run H → Run H
-    all_fields no_field t lines k = k
-    all_fields (item fs v) t lines k = each_field fs t lines (λ n s r. after (eval v s r) (λ ws. put_items lines t n ws (λ m. k)))
-    all_fields (named fs name v) t lines k = each_field fs t lines (λ n. named_field t name (eval v) lines k)
-    all_fields (keyed fs key v) t lines k = each_field fs t lines (λ n. keyed_field t (eval key) (eval v) lines k)
+    pub all_fields : Fields → ℕ → (line : ℕ) → Run H → Run H
+    all_fields no_field t l k = k
+    all_fields (item fs v) t l k = each_field fs t l (λ n s r. after (eval v s r) (λ ws s. put_items (at_line l s) t n ws (λ m. k) s))
+    all_fields (named fs name v) t l k = each_field fs t l (λ n. named_field t name (eval v) l k)
+    all_fields (keyed fs key v) t l k = each_field fs t l (λ n. keyed_field t (eval key) (eval v) l k)
 
   -- the body of a repeat, whose locals its condition sees
   abbrev pub open_body : Tree → Run H

@@ -5,7 +5,7 @@ use Rattle.lua_meaning.specs.declared.value.Value.{Value}
 use Rattle.lua_meaning.specs.Values.{first}
 use Rattle.lua_meaning.specs.Store.{Store, Resumptions, none, resumed, Result, Halt, OutOfFuel, CallOf, below_of, call_of, with_call, resumptions_of, and_then, of_thread}
 use Rattle.lua_meaning.specs.Code.{Code}
-use Rattle.lua_meaning.specs.Runs.{Run, go, halt, after, line_at, used_of}
+use Rattle.lua_meaning.specs.Runs.{Run, go, halt, after, line_at, at_line, used_of}
 use Rattle.lua_meaning.specs.Jobs.{Job, Apply, Look, Put, Turn, Round, Count, Each, From, HostOf, Again, Resumes}
 use Rattle.lua_meaning.specs.Indexing.{look, put_at}
 use Rattle.lua_meaning.specs.Nodes.{eval, statements, landed}
@@ -22,8 +22,8 @@ module _ {H : Type 0} (host : HostOf H) (code : Code) where
   work again resumes (Turn test block) = turn code again test block
   work again resumes (Round block test) = round code again block test
   work again resumes (Count v block at limit step) = count_turn code again v block at limit step
-  work again resumes (Each v n block f state control lines) = λ s r.
-      after (apply host code again resumes f (state ∷ control ∷ []) lines lines s r) (λ xs. each_with code again (first xs) v n block f state lines xs)
+  work again resumes (Each v n block f state control l) = λ s r.
+      after (apply host code again resumes f (state ∷ control ∷ []) (at_line l s) (at_line l s) s r) (λ xs. each_with code again (first xs) v n block f state l xs)
   work again resumes (From stats part outer) = λ s r. landed code again stats outer (statements code again part (go []) s r)
 
   -- jobs with this much fuel

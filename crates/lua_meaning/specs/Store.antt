@@ -3,6 +3,7 @@ use Rattle.std.specs.Prelude.{ℕ, ◌==◌, Bool, List, if◌then◌else◌}
 use Rattle.zc_budget.specs.declared.budget.Stop.{Stop}
 use Rattle.lua_meaning.specs.declared.value.Value.{Value}
 use Rattle.lua_meaning.specs.declared.status.CoStatus.{CoStatus}
+use Rattle.lua_meaning.specs.declared.variable.Slot.{Slot}
 use Rattle.lua_meaning.specs.Heap.{HeapOf}
 
 -- a coroutine (Lua 5.2 manual, 2.6)
@@ -16,11 +17,6 @@ pub record State (H : Type 0) : Type 0 where
   pub threads : List ThreadOf
   pub running : ℕ
   pub host : H
-
--- where a local variable lives: here, or among the variables that closures share
-pub data Slot : Type 0 where
-  Held : Value → Slot
-  Cell : ℕ → Slot
 
 -- the call in progress
 pub record CallOf : Type 0 where

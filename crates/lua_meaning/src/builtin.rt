@@ -85,6 +85,12 @@ pub enum Builtin {
     StringFind,
     /// `string.format(f, ..)`.
     StringFormat,
+    /// `string.match(s, pattern, i)`.
+    StringMatch,
+    /// `string.gmatch(s, pattern)`.
+    StringGmatch,
+    /// `string.gsub(s, pattern, replacement, n)`.
+    StringGsub,
     /// `zfs.exists(dataset)`.
     ZfsExists,
     /// `zfs.debug(message)`.
@@ -186,6 +192,9 @@ impl Builtin {
             Builtin::StringUpper => "string.upper",
             Builtin::StringFind => "string.find",
             Builtin::StringFormat => "string.format",
+            Builtin::StringMatch => "string.match",
+            Builtin::StringGmatch => "string.gmatch",
+            Builtin::StringGsub => "string.gsub",
             Builtin::ZfsExists => "zfs.exists",
             Builtin::ZfsDebug => "zfs.debug",
             Builtin::ZfsGetProp => "zfs.get_prop",

@@ -13,6 +13,7 @@ mod status;
 mod tests;
 mod text;
 mod value;
+mod variable;
 
 pub use builtin::Builtin;
 pub use ids::{CellId, ClosureId, IterId, TableId, ThreadId};
@@ -20,3 +21,4 @@ pub use iter::IterState;
 pub use status::{After, CoStatus};
 pub use text::LuaText;
 pub use value::Value;
+pub use variable::{Slot, Target};

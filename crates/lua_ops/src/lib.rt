@@ -1,0 +1,18 @@
+//! The operators of Lua on the values of a running program (Lua 5.2 manual, 3.4.1 to 3.4.6).
+#![tactic(auto)]
+
+mod arithmetic;
+mod comparison;
+mod errors;
+mod lengths;
+mod metamethods;
+mod numbers;
+mod result;
+mod texts;
+
+pub use arithmetic::{ArithOp, arith};
+pub use comparison::{CompareOp, compare, equal};
+pub use lengths::length;
+pub use numbers::to_int;
+pub use result::OpResult;
+pub use texts::{concat, to_text};

@@ -1,0 +1,10 @@
+pub mod Answers
+pub mod Filled
+pub mod Ids
+pub mod Charges
+pub mod Lending
+pub mod Puts
+pub mod Walks
+pub mod Iters
+pub mod Start
+pub mod Events
