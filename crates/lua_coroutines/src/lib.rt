@@ -1,0 +1,15 @@
+//! The frames of a running program: what each coroutine has still to do.
+#![tactic(auto)]
+
+mod call;
+mod frame;
+mod stack;
+#[cfg(test)]
+mod tests;
+
+pub use call::{CallInProgress, Lines, Targets};
+pub use frame::{
+    AssignFrame, BodyFrame, CalleeFrame, CountFrame, EachFrame, Frame, NativeFrame, OperandFrame,
+    RepeatFrame, TableFrame, WhileFrame,
+};
+pub use stack::Stack;

@@ -1,0 +1,10 @@
+pub mod Lists
+pub mod Steps
+pub mod Begins
+pub mod Making
+pub mod Blocks
+pub mod Loops
+pub mod Operands
+pub mod Assigning
+pub mod Calling
+pub mod Passing

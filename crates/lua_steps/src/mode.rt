@@ -1,0 +1,91 @@
+//! What a machine does next.
+
+use lua_ast::NodeId;
+use lua_coroutines::{Lines, Targets};
+use lua_meaning::{TableId, Value};
+use lua_values::ValueList;
+use zc_budget::Stop;
+
+/// What a machine does next, above its frames.
+#[derive(Drop)]
+pub enum Mode {
+    /// It begins a node.
+    Begin(NodeId),
+    /// It hands values to the top frame.
+    Give(ValueList),
+    /// It returns values from the function at work.
+    Leave(ValueList),
+    /// It leaves the innermost loop.
+    Break,
+    /// It looks for the label of this `goto`.
+    Jump {
+        goto: NodeId,
+    },
+    /// It raises an error.
+    Raise(Value),
+    /// A limit was reached.
+    Stopped(Stop),
+    /// It works out what an assignment stores to, from the target at `next` on.
+    Targets {
+        node: NodeId,
+        next: u32,
+        targets: Targets,
+    },
+    /// It stores the values of an assignment.
+    Stores {
+        node: NodeId,
+        targets: Targets,
+        values: ValueList,
+    },
+    /// It goes on with a table constructor, from the field at `next` on; `count` is the next whole
+    /// number.
+    Fields {
+        node: NodeId,
+        next: u32,
+        table: TableId,
+        count: u32,
+    },
+    /// It looks `object[key]` up.
+    Look {
+        node: NodeId,
+        object: Value,
+        key: Value,
+    },
+    /// It puts a value at `object[key]`.
+    Put {
+        node: NodeId,
+        object: Value,
+        key: Value,
+        value: Value,
+    },
+    /// It begins the turn of a numeric `for` with the number `at`, if there is one.
+    Count {
+        node: NodeId,
+        at: i64,
+        limit: i64,
+        step: i64,
+        outer: u32,
+    },
+    /// It begins a turn of a `repeat`.
+    Round {
+        node: NodeId,
+        outer: u32,
+    },
+    /// It begins the block of a `repeat`.
+    Open(NodeId),
+    /// It begins a turn of a generic `for`.
+    Next {
+        node: NodeId,
+        function: Value,
+        state: Value,
+        control: Value,
+        outer: u32,
+    },
+    /// It calls a function, where `is_own` as a coroutine's own.
+    Call {
+        function: Value,
+        args: ValueList,
+        lines: Lines,
+        is_own: bool,
+    },
+}
