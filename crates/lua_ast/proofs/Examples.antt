@@ -6,9 +6,10 @@ use Rattle.lua_ast.specs.declared.node.Node.TheVariants as node
 use Rattle.lua_ast.specs.declared.node.Field.TheVariants as field
 use Rattle.lua_ast.specs.declared.node.Literal.TheVariants as literal
 use Rattle.lua_ast.specs.declared.node.BinOp.TheVariants as bin
-use Rattle.lua_ast.specs.Tree.{Tree, Block, Local, Return, Const, Name, Binary, Paren, Missing, none, snoc, no_case, case, no_field, item, named, keyed, line_of}
+use Rattle.lua_ast.specs.Tree.{Tree, Block, Local, CallStat, Repeat, If, NumFor, Return, Const, Name, Index, Call, Binary, Paren, Table, Missing, none, snoc, no_case, case, present, no_field, item, named, keyed, line_of}
 use Rattle.lua_ast.specs.Decode.{tree, trees, list_of, cases_of, fields_of, own_number, no_number}
 use Rattle.lua_ast.specs.Numbers.{without_numbers}
+use Rattle.lua_ast.specs.Numbered.{numbered}
 
 abbrev on : ℕ → Node → LinedNode
 on l n = record { node = n; line = l }
@@ -67,3 +68,33 @@ fields = refl
 
 line : line_of sum_tree ≡ 1
 line = refl
+
+-- `local x = a.b + 1`, and on the next line `repeat f(x) until x`: each node comes after its parts, from left to right.
+abbrev loop_plain : Tree
+loop_plain = Block 0 1 (snoc
+    (snoc none (Local 0 1 (codes "x" ∷ []) (snoc none (Binary 0 1 bin.Add (Index 0 1 (Name 0 1 (codes "a")) (Const 0 1 (literal.Text (codes "b")))) (Const 0 1 (literal.Int (pos 1)))))))
+    (Repeat 0 2 (Block 0 2 (snoc none (CallStat 0 2 (Call 0 2 (Name 0 2 (codes "f")) (snoc none (Name 0 2 (codes "x"))))))) (Name 0 2 (codes "x"))))
+
+loop_numbered : numbered 0 loop_plain ≡ Block 13 1 (snoc
+    (snoc none (Local 5 1 (codes "x" ∷ []) (snoc none (Binary 4 1 bin.Add (Index 2 1 (Name 0 1 (codes "a")) (Const 1 1 (literal.Text (codes "b")))) (Const 3 1 (literal.Int (pos 1)))))))
+    (Repeat 12 2 (Block 10 2 (snoc none (CallStat 9 2 (Call 8 2 (Name 6 2 (codes "f")) (snoc none (Name 7 2 (codes "x"))))))) (Name 11 2 (codes "x"))))
+loop_numbered = refl
+
+-- `if a then elseif b then else end` and `for i = 1, 2, c do end`
+cases_numbered_so : numbered 0 (If 0 1 (case (case no_case (Name 0 1 (codes "a")) (Block 0 1 none)) (Name 0 1 (codes "b")) (Block 0 1 none)) (present (Block 0 1 none)))
+    ≡ If 5 1 (case (case no_case (Name 0 1 (codes "a")) (Block 1 1 none)) (Name 2 1 (codes "b")) (Block 3 1 none)) (present (Block 4 1 none))
+cases_numbered_so = refl
+
+for_numbered_so : numbered 0 (NumFor 0 1 (codes "i") (Name 0 1 (codes "a")) (Name 0 1 (codes "b")) (present (Name 0 1 (codes "c"))) (Block 0 1 none))
+    ≡ NumFor 4 1 (codes "i") (Name 0 1 (codes "a")) (Name 1 1 (codes "b")) (present (Name 2 1 (codes "c"))) (Block 3 1 none)
+for_numbered_so = refl
+
+-- `{a, n = b, [c] = d}`
+fields_numbered_so : numbered 0 (Table 0 1 (keyed (named (item no_field (Name 0 1 (codes "a"))) (codes "n") (Name 0 1 (codes "b"))) (Name 0 1 (codes "c")) (Name 0 1 (codes "d"))))
+    ≡ Table 4 1 (keyed (named (item no_field (Name 0 1 (codes "a"))) (codes "n") (Name 1 1 (codes "b"))) (Name 2 1 (codes "c")) (Name 3 1 (codes "d")))
+fields_numbered_so = refl
+
+-- Nodes in that order have the numbers that they are numbered with.
+sum_in_order : numbered 0 (tree no_number sum 6) ≡ sum_tree
+unfolding tree list_of
+sum_in_order = refl

@@ -4,4 +4,5 @@ pub mod Growing
 pub mod LabelsOnly
 pub mod PlacesBelow
 pub mod EachOnce
+pub mod Numbering
 mod Examples

@@ -3,3 +3,5 @@ pub mod Decode
 pub mod Numbers
 pub mod Weights
 pub mod Once
+pub mod Postfix
+pub mod Numbered

@@ -1,9 +1,11 @@
 //! A chunk that is being built.
 
-ghost use Rattle.std.specs.Prelude.{◌≡◌, ◌<◌, ◌+◌, ◌^◌, ◌∷◌, ◌++◌, [], ℕ, length, Some, IfOk, OnErr};
+ghost use Rattle.std.specs.Prelude.{◌≡◌, ◌<◌, ◌+◌, ◌^◌, ◌∷◌, ◌++◌, [], ℕ, List, length, Some, IfOk, OnErr};
 ghost use Rattle.lua_ast.specs.Tree.{line_of};
 ghost use Rattle.lua_ast.specs.Weights.{nodes_weight, total};
 ghost use Rattle.lua_ast.specs.Once.{IsEachOnce};
+ghost use Rattle.lua_ast.specs.Postfix.{Leaves, parts_on};
+ghost use Rattle.lua_ast.specs.Numbered.{IsNumbered};
 ghost use Rattle.lua_ast.specs.Decode.{PartsBelow, node_at, line_at, node_tree, tree};
 
 use crate::chunk::Chunk;
@@ -62,6 +64,8 @@ impl ChunkBuilder {
             tree number self.new id ≡ node_tree (tree number self.old) (number id) line node) }
         ensures older { (number : ℕ → ℕ) (i : ℕ) → i < length self.old →
             tree number self.new i ≡ tree number self.old i }
+        ensures order { IfOk result (λ id. (below : List ℕ) →
+            Leaves self.old (parts_on node below) → Leaves self.new (id ∷ below)) }
         ensures err { OnErr result (self.new ≡ self.old) }
     {
         let number = self.nodes.len();
@@ -96,7 +100,8 @@ impl ChunkBuilder {
 
     /// The chunk of these nodes, with this one as the node of the whole text. Where this node and
     /// the parts of all nodes are together each node once, whatever the nodes weigh, each stands
-    /// once in the tree.
+    /// once in the tree. Where the nodes in postfix order leave this one alone, the numbers of its
+    /// tree are in the order of the text.
     #[tactic(auto, using(crate::proofs::EachOnce::each_once))]
     pub fn finish(self, root: NodeId) -> Chunk
         requires { root < length self }
@@ -104,6 +109,7 @@ impl ChunkBuilder {
         ensures root { result.root ≡ root }
         ensures once { ((w : ℕ → ℕ) → w root + nodes_weight w self ≡ total w (length self)) →
             IsEachOnce result }
+        ensures numbered { Leaves self (root ∷ []) → IsNumbered result }
     {
         let ChunkBuilder { nodes } = self;
         Chunk::new(nodes, root)

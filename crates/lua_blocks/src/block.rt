@@ -1,14 +1,14 @@
 //! The end of a block (Lua 5.2 manual, 3.3.1, 3.3.4 and 3.3.5).
 
-ghost use Rattle.std.specs.Prelude.{◌+◌, ◌<◌, ◌∷◌, [], true, false, length, Some, None};
+ghost use Rattle.std.specs.Prelude.{◌<◌, ◌∷◌, [], true, false, length, Some, None};
 ghost use Rattle.lua_ast.specs.Decode.{PartsBelow, node_tree, cases_of};
 ghost use Rattle.lua_grammar.specs.Pushdown.{end_block, block_of, InRepeat, InThen, InElse};
 ghost use Rattle.lua_parser_state.specs.Shown.{tree_in, stack_in, begun_in, block_in, frame_in, attributes, BegunBelow, CasesBelow, BlockBelow, FrameBelow};
 ghost use Rattle.lua_parser_state.specs.declared.frame.OpenBlock.TheVariants.{NumericFor as OverNumbers, GenericFor as OverIterators};
 ghost use Rattle.lua_parser_state.specs.Gave.{Gave, terminal_of};
 ghost use Rattle.lua_blocks.specs.Ends.{ended, after_cases};
-ghost use Rattle.lua_ast.specs.Weights.{list_weight, maybe_weight, cases_weight, parts_weight};
-ghost use Rattle.lua_parser_state.specs.Weights.{Spends, begun_weight, block_weight, frame_weight};
+ghost use Rattle.lua_ast.specs.Postfix.{list_on, maybe_on, cases_on, parts_on};
+ghost use Rattle.lua_parser_state.specs.Order.{begun_on, block_on, frame_on, Stands, Answers};
 
 use crate::function::close_function;
 use lua_ast::{Ids, Node, NodeId};
@@ -19,7 +19,6 @@ use lua_parser_state::{
 };
 
 /// Adds the node of a block, and reads the token behind it.
-#[tactic(auto, unfolding(lua_parser_state::specs::Weights::spent_weight))]
 pub fn end_block(
     parser: &mut Parser,
     block: Begun,
@@ -30,7 +29,7 @@ pub fn end_block(
         (end_block (stack_in parser.old) (block_of (begun_in parser.old.nodes block)) (terminal_of kind) (attributes true 0 []))
         (end_block (stack_in parser.old) (block_of (begun_in parser.old.nodes block)) (terminal_of kind) (attributes false 0 []))
         result parser.new }
-    ensures once { Spends (λ w. begun_weight w block) parser.old result parser.new }
+    ensures order { Stands (λ below. begun_on block below) parser.old → Answers result parser.new }
 {
     let root = parser.block(block)?;
     match parser.pop() {
@@ -56,7 +55,7 @@ fn close_block(
         (end_block (frame_in parser.old.nodes frame ∷ stack_in parser.old) (tree_in parser.old.nodes body) (terminal_of kind) (attributes true 0 []))
         (end_block (frame_in parser.old.nodes frame ∷ stack_in parser.old) (tree_in parser.old.nodes body) (terminal_of kind) (attributes false 0 []))
         result parser.new }
-    ensures once { Spends (λ w. frame_weight w frame + w body) parser.old result parser.new }
+    ensures order { Stands (λ below. body ∷ frame_on frame below) parser.old → Answers result parser.new }
 {
     match frame {
         Frame::InBlock(outer) => close_body(parser, outer, body, kind),
@@ -77,7 +76,7 @@ fn close_body(
         (end_block (block_in parser.old.nodes outer ∷ stack_in parser.old) (tree_in parser.old.nodes body) (terminal_of kind) (attributes true 0 []))
         (end_block (block_in parser.old.nodes outer ∷ stack_in parser.old) (tree_in parser.old.nodes body) (terminal_of kind) (attributes false 0 []))
         result parser.new }
-    ensures once { Spends (λ w. block_weight w outer + w body) parser.old result parser.new }
+    ensures order { Stands (λ below. body ∷ block_on outer below) parser.old → Answers result parser.new }
 {
     match outer {
         OpenBlock::Do { line, block } => {
@@ -124,7 +123,7 @@ fn close_repeat(
         (end_block (InRepeat line (begun_in parser.old.nodes block) ∷ stack_in parser.old) (tree_in parser.old.nodes body) (terminal_of kind) (attributes true 0 []))
         (end_block (InRepeat line (begun_in parser.old.nodes block) ∷ stack_in parser.old) (tree_in parser.old.nodes body) (terminal_of kind) (attributes false 0 []))
         result parser.new }
-    ensures once { Spends (λ w. begun_weight w block + w body) parser.old result parser.new }
+    ensures order { Stands (λ below. body ∷ begun_on block below) parser.old → Answers result parser.new }
 {
     match kind {
         Some(TokenKind::Until) => {
@@ -154,7 +153,7 @@ fn close_else(
         (end_block (InElse line (cases_of (tree_in parser.old.nodes) tests blocks) (begun_in parser.old.nodes block) ∷ stack_in parser.old)
         (tree_in parser.old.nodes body) (terminal_of kind) (attributes false 0 []))
         result parser.new }
-    ensures once { Spends (λ w. cases_weight w tests blocks + begun_weight w block + w body) parser.old result parser.new }
+    ensures order { Stands (λ below. body ∷ cases_on tests blocks (begun_on block below)) parser.old → Answers result parser.new }
 {
     let node = Node::If {
         tests,
@@ -177,8 +176,7 @@ fn close_numeric_for(
         (end_block (block_in parser.old.nodes (OverNumbers numeric) ∷ stack_in parser.old) (tree_in parser.old.nodes body) (terminal_of kind) (attributes true 0 []))
         (end_block (block_in parser.old.nodes (OverNumbers numeric) ∷ stack_in parser.old) (tree_in parser.old.nodes body) (terminal_of kind) (attributes false 0 []))
         result parser.new }
-    ensures once { Spends (λ w. w numeric.first + w numeric.last + maybe_weight w numeric.step
-        + begun_weight w numeric.block + w body) parser.old result parser.new }
+    ensures order { Stands (λ below. body ∷ maybe_on numeric.step (numeric.last ∷ numeric.first ∷ begun_on numeric.block below)) parser.old → Answers result parser.new }
 {
     let NumericFor {
         line,
@@ -211,8 +209,7 @@ fn close_generic_for(
         (end_block (block_in parser.old.nodes (OverIterators generic) ∷ stack_in parser.old) (tree_in parser.old.nodes body) (terminal_of kind) (attributes true 0 []))
         (end_block (block_in parser.old.nodes (OverIterators generic) ∷ stack_in parser.old) (tree_in parser.old.nodes body) (terminal_of kind) (attributes false 0 []))
         result parser.new }
-    ensures once { Spends (λ w. list_weight w generic.exps
-        + begun_weight w generic.block + w body) parser.old result parser.new }
+    ensures order { Stands (λ below. body ∷ list_on generic.exps (begun_on generic.block below)) parser.old → Answers result parser.new }
 {
     let GenericFor {
         line,
@@ -242,7 +239,7 @@ fn close_statement(
         (ended (begun_in parser.old.nodes block) (node_tree (tree_in parser.old.nodes) 0 line node) (stack_in parser.old) (terminal_of kind))
         (ended (begun_in parser.old.nodes block) (node_tree (tree_in parser.old.nodes) 0 line node) (stack_in parser.old) (terminal_of kind))
         result parser.new }
-    ensures once { Spends (λ w. begun_weight w block + parts_weight w node) parser.old result parser.new }
+    ensures order { Stands (λ below. parts_on node (begun_on block below)) parser.old → Answers result parser.new }
 {
     match kind {
         Some(TokenKind::End) => {
@@ -275,7 +272,7 @@ fn close_then(
         (end_block (InThen line (cases_of (tree_in parser.old.nodes) tests blocks) (tree_in parser.old.nodes test) (begun_in parser.old.nodes block) ∷ stack_in parser.old)
         (tree_in parser.old.nodes body) (terminal_of kind) (attributes false 0 []))
         result parser.new }
-    ensures once { Spends (λ w. cases_weight w tests blocks + w test + begun_weight w block + w body) parser.old result parser.new }
+    ensures order { Stands (λ below. body ∷ test ∷ cases_on tests blocks (begun_on block below)) parser.old → Answers result parser.new }
 {
     tests.push(test)?;
     blocks.push(body)?;
@@ -297,7 +294,7 @@ fn close_cases(
         (after_cases line (cases_of (tree_in parser.old.nodes) tests blocks) (begun_in parser.old.nodes block) (stack_in parser.old) (terminal_of kind) (attributes true 0 []))
         (after_cases line (cases_of (tree_in parser.old.nodes) tests blocks) (begun_in parser.old.nodes block) (stack_in parser.old) (terminal_of kind) (attributes false 0 []))
         result parser.new }
-    ensures once { Spends (λ w. cases_weight w tests blocks + begun_weight w block) parser.old result parser.new }
+    ensures order { Stands (λ below. cases_on tests blocks (begun_on block below)) parser.old → Answers result parser.new }
 {
     match kind {
         Some(TokenKind::End) => {

@@ -1,14 +1,14 @@
 //! The end of a function (Lua 5.2 manual, 3.4.10).
 
-ghost use Rattle.std.specs.Prelude.{◌+◌, ◌≡◌, ◌<◌, ◌++◌, ◌∷◌, [], true, false, length, IfOk};
+ghost use Rattle.std.specs.Prelude.{◌≡◌, ◌<◌, ◌++◌, ◌∷◌, [], true, false, length, IfOk};
 ghost use Rattle.lua_ast.specs.Tree.{Function, Assign, LocalFunction, none, snoc};
 ghost use Rattle.lua_ast.specs.Decode.{PartsBelow, node_tree};
 ghost use Rattle.lua_grammar.specs.Pushdown.{StatNext, InFunction, add, end_block, finished, own_line, given_of};
 ghost use Rattle.lua_parser_state.specs.Shown.{tree_in, stack_in, state_in, begun_in, head_in, given, attributes, BegunBelow, HeadBelow, StateBelow};
-ghost use Rattle.lua_ast.specs.Weights.{parts_weight};
 ghost use Rattle.lua_parser_state.specs.Gave.{Gave, terminal_of};
 ghost use Rattle.lua_blocks.specs.Ends.{is_method};
-ghost use Rattle.lua_parser_state.specs.Weights.{Spends, begun_weight, head_weight};
+ghost use Rattle.lua_ast.specs.Postfix.{parts_on};
+ghost use Rattle.lua_parser_state.specs.Order.{begun_on, head_on, Stands, Answers};
 
 use lua_ast::{AstText, AstTexts, Ids, Node, NodeId};
 use lua_lexer::TokenKind;
@@ -30,7 +30,7 @@ pub fn close_function(
         (end_block (InFunction (head_in parser.old.nodes head) params.items vararg ∷ stack_in parser.old) (tree_in parser.old.nodes body) (terminal_of kind) (attributes true 0 []))
         (end_block (InFunction (head_in parser.old.nodes head) params.items vararg ∷ stack_in parser.old) (tree_in parser.old.nodes body) (terminal_of kind) (attributes false 0 []))
         result parser.new }
-    ensures once { Spends (λ w. head_weight w head + w body) parser.old result parser.new }
+    ensures order { Stands (λ below. body ∷ head_on head below) parser.old → Answers result parser.new }
 {
     match kind {
         Some(TokenKind::End) => Ok(finish_function(parser, head, params, vararg, body)?),
@@ -53,7 +53,7 @@ fn finish_function(
         (Function 0 (own_line (head_in parser.old.nodes head)) (given_of (head_in parser.old.nodes head) ++ params.items) vararg
         (tree_in parser.old.nodes body))) }
     ensures below { IfOk result (λ s. StateBelow (length parser.new.nodes) s) }
-    ensures once { Spends (λ w. head_weight w head + w body) parser.old result parser.new }
+    ensures order { Stands (λ below. body ∷ head_on head below) parser.old → Answers result parser.new }
 {
     let params = all_params(parser.alloc(), is_method(&head), params)?;
     let node = Node::Function {
@@ -104,7 +104,7 @@ fn assign_function(
         ≡ StatNext (add (begun_in parser.old.nodes block) (Assign 0 line (snoc none (tree_in parser.old.nodes target))
         (snoc none (node_tree (tree_in parser.old.nodes) 0 line node)))) (stack_in parser.old)) }
     ensures below { IfOk result (λ s. StateBelow (length parser.new.nodes) s) }
-    ensures once { Spends (λ w. w target + parts_weight w node + begun_weight w block) parser.old result parser.new }
+    ensures order { Stands (λ below. parts_on node (target ∷ begun_on block below)) parser.old → Answers result parser.new }
 {
     let function = parser.add(node, line)?;
     let mut targets = Ids::new(parser.alloc());
@@ -131,7 +131,7 @@ fn local_function(
         ≡ StatNext (add (begun_in parser.old.nodes block) (LocalFunction 0 line name
         (node_tree (tree_in parser.old.nodes) 0 own node))) (stack_in parser.old)) }
     ensures below { IfOk result (λ s. StateBelow (length parser.new.nodes) s) }
-    ensures once { Spends (λ w. parts_weight w node + begun_weight w block) parser.old result parser.new }
+    ensures order { Stands (λ below. parts_on node (begun_on block below)) parser.old → Answers result parser.new }
 {
     let function = parser.add(node, own)?;
     let block = parser.statement(block, Node::LocalFunction { name, function }, line)?;

@@ -1,13 +1,13 @@
 //! What stands before the block of a statement (Lua 5.2 manual, 3.3.4 and 3.3.5).
 
-ghost use Rattle.std.specs.Prelude.{◌+◌, ◌<◌, [], ℕ, List, true, false, length};
+ghost use Rattle.std.specs.Prelude.{◌<◌, [], ℕ, List, true, false, length, ◌∷◌};
 ghost use Rattle.lua_ast.specs.Decode.{cases_of};
 ghost use Rattle.lua_grammar.specs.Pushdown.{InWhileTest, InIfTest, InFirst, InLimit, InStep, close};
 ghost use Rattle.lua_parser_state.specs.Shown.{tree_in, stack_in, begun_in, header_in, attributes, BegunBelow, CasesBelow, HeaderBelow};
 ghost use Rattle.lua_parser_state.specs.declared.frame.OpenHeader.TheVariants.{Iterator};
 ghost use Rattle.lua_parser_state.specs.Gave.{Gave, terminal_of};
-ghost use Rattle.lua_ast.specs.Weights.{list_weight, cases_weight};
-ghost use Rattle.lua_parser_state.specs.Weights.{Spends, begun_weight, header_weight};
+ghost use Rattle.lua_ast.specs.Postfix.{list_on, cases_on};
+ghost use Rattle.lua_parser_state.specs.Order.{begun_on, header_on, Stands, Answers};
 
 use lua_ast::{AstText, Ids, NodeId};
 use lua_lexer::TokenKind;
@@ -28,7 +28,7 @@ pub fn close_in_header(
         (close (header_in parser.old.nodes header) (tree_in parser.old.nodes had) (stack_in parser.old) (terminal_of kind) (attributes true line slice))
         (close (header_in parser.old.nodes header) (tree_in parser.old.nodes had) (stack_in parser.old) (terminal_of kind) (attributes false line slice))
         result parser.new }
-    ensures once { Spends (λ w. header_weight w header + w had) parser.old result parser.new }
+    ensures order { Stands (λ below. had ∷ header_on header below) parser.old → Answers result parser.new }
 {
     match header {
         OpenHeader::While { line, block } => close_while(parser, line, block, had, kind),
@@ -72,7 +72,7 @@ fn close_while(
         (close (InWhileTest line (begun_in parser.old.nodes block)) (tree_in parser.old.nodes had) (stack_in parser.old) (terminal_of kind) (attributes true 0 []))
         (close (InWhileTest line (begun_in parser.old.nodes block)) (tree_in parser.old.nodes had) (stack_in parser.old) (terminal_of kind) (attributes false 0 []))
         result parser.new }
-    ensures once { Spends (λ w. begun_weight w block + w had) parser.old result parser.new }
+    ensures order { Stands (λ below. had ∷ begun_on block below) parser.old → Answers result parser.new }
 {
     match kind {
         Some(TokenKind::Do) => parser.enter_block(OpenBlock::While {
@@ -101,7 +101,7 @@ fn close_if(
         (close (InIfTest line (cases_of (tree_in parser.old.nodes) tests blocks) (begun_in parser.old.nodes block)) (tree_in parser.old.nodes had) (stack_in parser.old) (terminal_of kind) (attributes true 0 []))
         (close (InIfTest line (cases_of (tree_in parser.old.nodes) tests blocks) (begun_in parser.old.nodes block)) (tree_in parser.old.nodes had) (stack_in parser.old) (terminal_of kind) (attributes false 0 []))
         result parser.new }
-    ensures once { Spends (λ w. cases_weight w tests blocks + begun_weight w block + w had) parser.old result parser.new }
+    ensures order { Stands (λ below. had ∷ cases_on tests blocks (begun_on block below)) parser.old → Answers result parser.new }
 {
     match kind {
         Some(TokenKind::Then) => parser.enter_block(OpenBlock::Then {
@@ -130,7 +130,7 @@ fn close_first(
         (close (InFirst line name (begun_in parser.old.nodes block)) (tree_in parser.old.nodes had) (stack_in parser.old) (terminal_of kind) (attributes true 0 []))
         (close (InFirst line name (begun_in parser.old.nodes block)) (tree_in parser.old.nodes had) (stack_in parser.old) (terminal_of kind) (attributes false 0 []))
         result parser.new }
-    ensures once { Spends (λ w. begun_weight w block + w had) parser.old result parser.new }
+    ensures order { Stands (λ below. had ∷ begun_on block below) parser.old → Answers result parser.new }
 {
     match kind {
         Some(TokenKind::Comma) => {
@@ -163,7 +163,7 @@ fn close_last(
         (close (InLimit line name (tree_in parser.old.nodes first) (begun_in parser.old.nodes block)) (tree_in parser.old.nodes had) (stack_in parser.old) (terminal_of kind) (attributes true 0 []))
         (close (InLimit line name (tree_in parser.old.nodes first) (begun_in parser.old.nodes block)) (tree_in parser.old.nodes had) (stack_in parser.old) (terminal_of kind) (attributes false 0 []))
         result parser.new }
-    ensures once { Spends (λ w. w first + begun_weight w block + w had) parser.old result parser.new }
+    ensures order { Stands (λ below. had ∷ first ∷ begun_on block below) parser.old → Answers result parser.new }
 {
     match kind {
         Some(TokenKind::Comma) => {
@@ -207,7 +207,7 @@ fn close_step(
         (close (InStep line name (tree_in parser.old.nodes first) (tree_in parser.old.nodes last) (begun_in parser.old.nodes block)) (tree_in parser.old.nodes had) (stack_in parser.old) (terminal_of kind) (attributes true 0 []))
         (close (InStep line name (tree_in parser.old.nodes first) (tree_in parser.old.nodes last) (begun_in parser.old.nodes block)) (tree_in parser.old.nodes had) (stack_in parser.old) (terminal_of kind) (attributes false 0 []))
         result parser.new }
-    ensures once { Spends (λ w. w first + w last + begun_weight w block + w had) parser.old result parser.new }
+    ensures order { Stands (λ below. had ∷ last ∷ first ∷ begun_on block below) parser.old → Answers result parser.new }
 {
     match kind {
         Some(TokenKind::Do) => parser.enter_block(OpenBlock::NumericFor(NumericFor {
@@ -223,7 +223,7 @@ fn close_step(
 }
 
 /// Appends an expression to those of a `for` over iterators, and reads the `,` or `do` behind it.
-#[tactic(auto, using(lua_ast::proofs::Growing::list_of_push, lua_ast::proofs::PlacesBelow::below_push, lua_parser_state::proofs::Weighing::list_push))]
+#[tactic(auto, using(lua_ast::proofs::Growing::list_of_push, lua_ast::proofs::PlacesBelow::below_push, lua_parser_state::proofs::Ordering::list_on_push))]
 fn close_iterator(
     parser: &mut Parser,
     mut generic: GenericFor,
@@ -236,8 +236,7 @@ fn close_iterator(
         (close (header_in parser.old.nodes (Iterator generic)) (tree_in parser.old.nodes had) (stack_in parser.old) (terminal_of kind) (attributes true 0 []))
         (close (header_in parser.old.nodes (Iterator generic)) (tree_in parser.old.nodes had) (stack_in parser.old) (terminal_of kind) (attributes false 0 []))
         result parser.new }
-    ensures once { Spends (λ w. list_weight w generic.exps
-        + begun_weight w generic.block + w had) parser.old result parser.new }
+    ensures order { Stands (λ below. had ∷ list_on generic.exps (begun_on generic.block below)) parser.old → Answers result parser.new }
 {
     generic.exps.push(had)?;
     match kind {

@@ -1,6 +1,6 @@
 //! Calls and table constructors (Lua 5.2 manual, 3.4.8 and 3.4.9).
 
-ghost use Rattle.std.specs.Prelude.{◌+◌, ◌≡◌, ◌<◌, true, false, length, IfOk};
+ghost use Rattle.std.specs.Prelude.{◌≡◌, ◌<◌, true, false, length, IfOk, ◌∷◌};
 ghost use Rattle.lua_ast.specs.Tree.{Table, none, snoc};
 ghost use Rattle.lua_ast.specs.Decode.{list_of, fields_of, AllBelow};
 ghost use Rattle.lua_grammar.specs.Signs.{token};
@@ -8,8 +8,8 @@ ghost use Rattle.lua_lexer.specs.declared.token.TokenKind.TheVariants.{Text};
 ghost use Rattle.lua_grammar.specs.Pushdown.{Have, call_of, args_begin, made, field_done};
 ghost use Rattle.lua_parser_state.specs.Shown.{tree_in, stack_in, state_in, callee_in, purpose_in, attributes, CalleeBelow, TableBelow, StateBelow};
 ghost use Rattle.lua_parser_state.specs.Gave.{Gave};
-ghost use Rattle.lua_ast.specs.Weights.{list_weight};
-ghost use Rattle.lua_parser_state.specs.Weights.{Spends, callee_weight, table_weight};
+ghost use Rattle.lua_ast.specs.Postfix.{list_on};
+ghost use Rattle.lua_parser_state.specs.Order.{callee_on, table_on, Stands, Answers};
 
 use lua_ast::{AstText, Fields, Ids, Literal, Node, NodeId};
 use lua_lexer::{TokenKind, text_value};
@@ -23,7 +23,7 @@ pub fn call(parser: &mut Parser, limit: u8, callee: Callee, args: Ids) -> Result
     ensures state { IfOk result (λ s. state_in parser.new.nodes (stack_in parser.new) s
         ≡ Have limit (call_of (callee_in parser.old.nodes callee) (list_of (tree_in parser.old.nodes) args)) (stack_in parser.old)) }
     ensures below { IfOk result (λ s. StateBelow (length parser.new.nodes) s) }
-    ensures once { Spends (λ w. callee_weight w callee + list_weight w args) parser.old result parser.new }
+    ensures order { Stands (λ below. list_on args (callee_on callee below)) parser.old → Answers result parser.new }
 {
     match callee {
         Callee::Function { function } => {
@@ -50,7 +50,7 @@ pub fn call_with(
     ensures state { IfOk result (λ s. state_in parser.new.nodes (stack_in parser.new) s
         ≡ Have limit (call_of (callee_in parser.old.nodes callee) (snoc none (tree_in parser.old.nodes arg))) (stack_in parser.old)) }
     ensures below { IfOk result (λ s. StateBelow (length parser.new.nodes) s) }
-    ensures once { Spends (λ w. callee_weight w callee + w arg) parser.old result parser.new }
+    ensures order { Stands (λ below. arg ∷ callee_on callee below) parser.old → Answers result parser.new }
 {
     let mut args = Ids::new(parser.alloc());
     args.push(arg)?;
@@ -71,7 +71,7 @@ fn call_with_text(
         (args_begin limit (callee_in parser.old.nodes callee) (stack_in parser.old) (token Text) (attributes true line slice.now))
         (args_begin limit (callee_in parser.old.nodes callee) (stack_in parser.old) (token Text) (attributes false line slice.now))
         result parser.new }
-    ensures once { Spends (λ w. callee_weight w callee) parser.old result parser.new }
+    ensures order { Stands (λ below. callee_on callee below) parser.old → Answers result parser.new }
 {
     let bytes = text_value(parser.alloc(), slice)?;
     let value = Literal::Text(AstText::from_vec(bytes));
@@ -94,7 +94,7 @@ pub fn args_begin(
         (args_begin limit (callee_in parser.old.nodes callee) (stack_in parser.old) (token kind) (attributes true line slice.now))
         (args_begin limit (callee_in parser.old.nodes callee) (stack_in parser.old) (token kind) (attributes false line slice.now))
         result parser.new }
-    ensures once { Spends (λ w. callee_weight w callee) parser.old result parser.new }
+    ensures order { Stands (λ below. callee_on callee below) parser.old → Answers result parser.new }
 {
     match kind {
         TokenKind::OpenParen => parser.deepen(State::ArgsOpen { limit, callee }),
@@ -118,7 +118,7 @@ pub fn finish_table(parser: &mut Parser, table: BegunTable) -> Result<State, All
     ensures state { IfOk result (λ s. state_in parser.new.nodes (stack_in parser.new) s
         ≡ made (purpose_in parser.old.nodes table.purpose) (Table 0 table.line (fields_of (tree_in parser.old.nodes) table.fields)) (stack_in parser.old)) }
     ensures below { IfOk result (λ s. StateBelow (length parser.new.nodes) s) }
-    ensures once { Spends (λ w. table_weight w table) parser.old result parser.new }
+    ensures order { Stands (λ below. table_on table below) parser.old → Answers result parser.new }
 {
     let BegunTable {
         purpose,
@@ -139,7 +139,7 @@ pub fn field_done(parser: &mut Parser, table: BegunTable, kind: TokenKind) -> Re
         (field_done (purpose_in parser.old.nodes table.purpose) table.line (fields_of (tree_in parser.old.nodes) table.fields) (stack_in parser.old) (token kind))
         (field_done (purpose_in parser.old.nodes table.purpose) table.line (fields_of (tree_in parser.old.nodes) table.fields) (stack_in parser.old) (token kind))
         result parser.new }
-    ensures once { Spends (λ w. table_weight w table) parser.old result parser.new }
+    ensures order { Stands (λ below. table_on table below) parser.old → Answers result parser.new }
 {
     match kind {
         TokenKind::Comma | TokenKind::Semicolon => Ok(State::FieldNext { table }),

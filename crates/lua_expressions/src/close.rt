@@ -1,13 +1,13 @@
 //! The ends of parentheses, indices, arguments, keys and operations.
 
-ghost use Rattle.std.specs.Prelude.{◌+◌, ◌<◌, [], true, false, length, Some, ◌≡◌, IfOk, OnOk};
+ghost use Rattle.std.specs.Prelude.{◌<◌, ℕ, List, [], true, false, length, Some, ◌≡◌, IfOk, OnOk, ◌∷◌};
 ghost use Rattle.lua_ast.specs.Decode.{list_of, fields_of, AllBelow};
 ghost use Rattle.lua_grammar.specs.Pushdown.{InParen, InIndex, InArgs, InKey, close};
 ghost use Rattle.lua_parser_state.specs.Shown.{tree_in, stack_in, callee_in, purpose_in, attributes, CalleeBelow, TableBelow, operator_in};
 ghost use Rattle.lua_parser_state.specs.Gave.{Gave, terminal_of};
-ghost use Rattle.lua_ast.specs.Weights.{list_weight};
-ghost use Rattle.lua_parser_state.specs.Weights.{Spends, callee_weight, table_weight, Balances};
 ghost use Rattle.lua_grammar.specs.Operators.{joined};
+ghost use Rattle.lua_ast.specs.Postfix.{list_on, Leaves};
+ghost use Rattle.lua_parser_state.specs.Order.{callee_on, table_on, Stands, Answers};
 
 use crate::call::call;
 use lua_ast::{Ids, Node, NodeId};
@@ -28,7 +28,7 @@ pub fn close_paren(
         (close (InParen limit line) (tree_in parser.old.nodes had) (stack_in parser.old) (terminal_of kind) (attributes true 0 []))
         (close (InParen limit line) (tree_in parser.old.nodes had) (stack_in parser.old) (terminal_of kind) (attributes false 0 []))
         result parser.new }
-    ensures once { Spends (λ w. w had) parser.old result parser.new }
+    ensures order { Stands (λ below. had ∷ below) parser.old → Answers result parser.new }
 {
     match kind {
         Some(TokenKind::CloseParen) => Ok(parser.give(limit, Node::Paren { inner: had }, line)?),
@@ -50,7 +50,7 @@ pub fn close_index(
         (close (InIndex limit (tree_in parser.old.nodes object)) (tree_in parser.old.nodes had) (stack_in parser.old) (terminal_of kind) (attributes true 0 []))
         (close (InIndex limit (tree_in parser.old.nodes object)) (tree_in parser.old.nodes had) (stack_in parser.old) (terminal_of kind) (attributes false 0 []))
         result parser.new }
-    ensures once { Spends (λ w. w object + w had) parser.old result parser.new }
+    ensures order { Stands (λ below. had ∷ object ∷ below) parser.old → Answers result parser.new }
 {
     match kind {
         Some(TokenKind::CloseBracket) => {
@@ -62,7 +62,7 @@ pub fn close_index(
 }
 
 /// Appends an argument, and reads the `,` or `)` behind it.
-#[tactic(auto, using(lua_ast::proofs::Growing::list_of_push, lua_ast::proofs::PlacesBelow::below_push, lua_parser_state::proofs::Weighing::list_push))]
+#[tactic(auto, using(lua_ast::proofs::Growing::list_of_push, lua_ast::proofs::PlacesBelow::below_push, lua_parser_state::proofs::Ordering::list_on_push))]
 pub fn close_args(
     parser: &mut Parser,
     limit: u8,
@@ -78,7 +78,7 @@ pub fn close_args(
         (close (InArgs limit (callee_in parser.old.nodes callee) (list_of (tree_in parser.old.nodes) args)) (tree_in parser.old.nodes had) (stack_in parser.old) (terminal_of kind) (attributes true 0 []))
         (close (InArgs limit (callee_in parser.old.nodes callee) (list_of (tree_in parser.old.nodes) args)) (tree_in parser.old.nodes had) (stack_in parser.old) (terminal_of kind) (attributes false 0 []))
         result parser.new }
-    ensures once { Spends (λ w. callee_weight w callee + list_weight w args + w had) parser.old result parser.new }
+    ensures order { Stands (λ below. had ∷ list_on args (callee_on callee below)) parser.old → Answers result parser.new }
 {
     args.push(had)?;
     match kind {
@@ -108,7 +108,7 @@ pub fn close_key(
         (close (InKey (purpose_in parser.old.nodes table.purpose) table.line (fields_of (tree_in parser.old.nodes) table.fields)) (tree_in parser.old.nodes had) (stack_in parser.old) (terminal_of kind) (attributes true 0 []))
         (close (InKey (purpose_in parser.old.nodes table.purpose) table.line (fields_of (tree_in parser.old.nodes) table.fields)) (tree_in parser.old.nodes had) (stack_in parser.old) (terminal_of kind) (attributes false 0 []))
         result parser.new }
-    ensures once { Spends (λ w. table_weight w table + w had) parser.old result parser.new }
+    ensures order { Stands (λ below. had ∷ table_on table below) parser.old → Answers result parser.new }
 {
     match kind {
         Some(TokenKind::CloseBracket) => Ok(State::KeyEnd { table, key: had }),
@@ -130,8 +130,8 @@ pub fn finish_operation(
     ensures within { IfOk result (λ id. id < length parser.new.nodes) }
     ensures stack { OnOk result (stack_in parser.new ≡ stack_in parser.old) }
     ensures frames { OnOk result (parser.new.frames ≡ parser.old.frames) }
-    ensures once { IfOk result (λ id.
-        Balances (λ w. w left + w right) parser.old (λ w. w id) parser.new) }
+    ensures order { IfOk result (λ id. (below : List ℕ) →
+        Leaves parser.old.nodes (right ∷ left ∷ below) → Leaves parser.new.nodes (id ∷ below)) }
 {
     let line = parser.line(left);
     match op {

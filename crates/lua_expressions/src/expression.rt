@@ -5,7 +5,7 @@ ghost use Rattle.lua_grammar.specs.Signs.{token};
 ghost use Rattle.lua_grammar.specs.Pushdown.{begin, begin_unary};
 ghost use Rattle.lua_parser_state.specs.Shown.{stack_in, attributes, frame_in, FrameBelow};
 ghost use Rattle.lua_parser_state.specs.Gave.{Gave, IsSmall};
-ghost use Rattle.lua_parser_state.specs.Weights.{Spends, frame_weight};
+ghost use Rattle.lua_parser_state.specs.Order.{frame_on, Stands, Answers};
 
 use crate::literal::{literal, unary_operator};
 use lua_ast::{AstText, Fields, Node, UnOp};
@@ -24,7 +24,7 @@ pub fn begin(
     requires { IsSmall kind slice.now }
     ensures gave { Gave (begin limit (stack_in parser.old) (token kind) (attributes true line slice.now))
         (begin limit (stack_in parser.old) (token kind) (attributes false line slice.now)) result parser.new }
-    ensures once { Spends (λ _. 0) parser.old result parser.new }
+    ensures order { Stands (λ below. below) parser.old → Answers result parser.new }
 {
     match kind {
         TokenKind::Ellipsis => Ok(parser.give(limit, Node::Vararg, line)?),
@@ -60,7 +60,7 @@ fn begin_unary(
 ) -> Result<State, Refusal>
     ensures gave { Gave (begin_unary limit (stack_in parser.old) (attributes true line []) op)
         (begin_unary limit (stack_in parser.old) (attributes false line []) op) result parser.new }
-    ensures once { Spends (λ _. 0) parser.old result parser.new }
+    ensures order { Stands (λ below. below) parser.old → Answers result parser.new }
 {
     let Some(op) = op else {
         return Err(Refusal::Unexpected);
@@ -84,7 +84,7 @@ pub fn begin_in(
     ensures gave { Gave
         (begin 0 (frame_in parser.old.nodes frame ∷ stack_in parser.old) (token kind) (attributes true line slice.now))
         (begin 0 (frame_in parser.old.nodes frame ∷ stack_in parser.old) (token kind) (attributes false line slice.now)) result parser.new }
-    ensures once { Spends (λ w. frame_weight w frame) parser.old result parser.new }
+    ensures order { Stands (λ below. frame_on frame below) parser.old → Answers result parser.new }
 {
     parser.push(frame)?;
     begin(parser, 0, kind, line, slice)

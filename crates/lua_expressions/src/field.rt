@@ -1,13 +1,13 @@
 //! Arguments and fields (Lua 5.2 manual, 3.4.8 and 3.4.9).
 
-ghost use Rattle.std.specs.Prelude.{◌+◌, ◌<◌, true, false, length, Some, None};
+ghost use Rattle.std.specs.Prelude.{◌<◌, true, false, length, Some, None, ◌∷◌};
 ghost use Rattle.lua_ast.specs.Decode.{fields_of, with_field, FieldBelow};
 ghost use Rattle.lua_grammar.specs.Signs.{token};
 ghost use Rattle.lua_grammar.specs.Pushdown.{args_open, field_next, field_done, key_end};
 ghost use Rattle.lua_parser_state.specs.Shown.{tree_in, stack_in, callee_in, purpose_in, attributes, CalleeBelow, TableBelow};
 ghost use Rattle.lua_parser_state.specs.Gave.{Gave, IsSmall, terminal_of};
-ghost use Rattle.lua_ast.specs.Weights.{field_weight};
-ghost use Rattle.lua_parser_state.specs.Weights.{Spends, callee_weight, table_weight};
+ghost use Rattle.lua_ast.specs.Postfix.{field_on};
+ghost use Rattle.lua_parser_state.specs.Order.{callee_on, table_on, Stands, Answers};
 
 use crate::call::{call, field_done, finish_table};
 use crate::expression::begin_in;
@@ -31,7 +31,7 @@ pub fn args_open(
         (args_open limit (callee_in parser.old.nodes callee) (stack_in parser.old) (token kind) (attributes true line slice.now))
         (args_open limit (callee_in parser.old.nodes callee) (stack_in parser.old) (token kind) (attributes false line slice.now))
         result parser.new }
-    ensures once { Spends (λ w. callee_weight w callee) parser.old result parser.new }
+    ensures order { Stands (λ below. callee_on callee below) parser.old → Answers result parser.new }
 {
     let args = Ids::new(parser.alloc());
     match kind {
@@ -64,7 +64,7 @@ pub fn field_next(
         (field_next (purpose_in parser.old.nodes table.purpose) table.line (fields_of (tree_in parser.old.nodes) table.fields) (stack_in parser.old) (token kind) (attributes true line slice.now))
         (field_next (purpose_in parser.old.nodes table.purpose) table.line (fields_of (tree_in parser.old.nodes) table.fields) (stack_in parser.old) (token kind) (attributes false line slice.now))
         result parser.new }
-    ensures once { Spends (λ w. table_weight w table) parser.old result parser.new }
+    ensures order { Stands (λ below. table_on table below) parser.old → Answers result parser.new }
 {
     match kind {
         TokenKind::CloseBrace => Ok(finish_table(parser, table)?),
@@ -94,7 +94,7 @@ pub fn key_end(
         (key_end (purpose_in parser.old.nodes table.purpose) table.line (fields_of (tree_in parser.old.nodes) table.fields) (tree_in parser.old.nodes key) (stack_in parser.old) (token kind))
         (key_end (purpose_in parser.old.nodes table.purpose) table.line (fields_of (tree_in parser.old.nodes) table.fields) (tree_in parser.old.nodes key) (stack_in parser.old) (token kind))
         result parser.new }
-    ensures once { Spends (λ w. table_weight w table + w key) parser.old result parser.new }
+    ensures order { Stands (λ below. key ∷ table_on table below) parser.old → Answers result parser.new }
 {
     match kind {
         TokenKind::Assign => {
@@ -106,7 +106,7 @@ pub fn key_end(
 }
 
 /// Appends a field to those of its table, and reads the token behind it.
-#[tactic(auto, using(lua_ast::proofs::Growing::fields_of_push, lua_ast::proofs::PlacesBelow::fields_below_push, lua_parser_state::proofs::Weighing::fields_push))]
+#[tactic(auto, using(lua_ast::proofs::Growing::fields_of_push, lua_ast::proofs::PlacesBelow::fields_below_push, lua_parser_state::proofs::Ordering::fields_on_push))]
 pub fn field_over(
     parser: &mut Parser,
     mut table: BegunTable,
@@ -119,7 +119,7 @@ pub fn field_over(
         (field_done (purpose_in parser.old.nodes table.purpose) table.line (with_field (tree_in parser.old.nodes) (fields_of (tree_in parser.old.nodes) table.fields) field) (stack_in parser.old) (terminal_of kind))
         (field_done (purpose_in parser.old.nodes table.purpose) table.line (with_field (tree_in parser.old.nodes) (fields_of (tree_in parser.old.nodes) table.fields) field) (stack_in parser.old) (terminal_of kind))
         result parser.new }
-    ensures once { Spends (λ w. table_weight w table + field_weight w field) parser.old result parser.new }
+    ensures order { Stands (λ below. field_on field (table_on table below)) parser.old → Answers result parser.new }
 {
     table.fields.push(field)?;
     match kind {

@@ -1,13 +1,13 @@
 //! What may follow an expression (Lua 5.2 manual, 3.2, 3.4.7, 3.4.9 and section 9).
 
-ghost use Rattle.std.specs.Prelude.{◌≡◌, ◌<◌, true, false, length, Some, None, cond, option_map};
+ghost use Rattle.std.specs.Prelude.{◌≡◌, ◌<◌, true, false, length, Some, None, cond, option_map, ◌∷◌};
 ghost use Rattle.lua_grammar.specs.Signs.{token};
 ghost use Rattle.lua_grammar.specs.Operators.{operator_of};
 ghost use Rattle.lua_grammar.specs.Grammar.{is_prefix};
 ghost use Rattle.lua_parser_state.specs.Shown.{tree_in, stack_in, operator_in, attributes};
 ghost use Rattle.lua_parser_state.specs.Gave.{Gave, terminal_of};
 ghost use Rattle.lua_expressions.specs.Suffixes.{IsSuffix, chosen, extended};
-ghost use Rattle.lua_parser_state.specs.Weights.{Spends};
+ghost use Rattle.lua_parser_state.specs.Order.{Stands, Answers};
 
 use crate::call::args_begin;
 use lua_ast::NodeId;
@@ -105,7 +105,7 @@ pub fn extend(
         (extended limit (tree_in parser.old.nodes had) (stack_in parser.old) (terminal_of kind) (attributes true line slice.now) suffix)
         (extended limit (tree_in parser.old.nodes had) (stack_in parser.old) (terminal_of kind) (attributes false line slice.now) suffix)
         result parser.new }
-    ensures once { Spends (λ w. w had) parser.old result parser.new }
+    ensures order { Stands (λ below. had ∷ below) parser.old → Answers result parser.new }
 {
     match suffix {
         Suffix::Field => {

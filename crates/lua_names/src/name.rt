@@ -1,12 +1,12 @@
 //! What goes on at a name.
 
-ghost use Rattle.std.specs.Prelude.{◌+◌, ◌≡◌, ◌<◌, ◌∷◌, ◌++◌, [], true, false, length, IfOk};
+ghost use Rattle.std.specs.Prelude.{◌≡◌, ◌<◌, ◌∷◌, ◌++◌, [], true, false, length, IfOk};
 ghost use Rattle.lua_grammar.specs.Signs.{token};
 ghost use Rattle.lua_grammar.specs.Pushdown.{after_name, name_next, ForFunction};
 ghost use Rattle.lua_parser_state.specs.Shown.{tree_in, stack_in, state_in, begun_in, naming_in, attributes, BegunBelow, NamingBelow, StateBelow};
 ghost use Rattle.lua_names.specs.Paths.{after_path};
 ghost use Rattle.lua_parser_state.specs.Gave.{Gave};
-ghost use Rattle.lua_parser_state.specs.Weights.{Spends, begun_weight, naming_weight};
+ghost use Rattle.lua_parser_state.specs.Order.{begun_on, naming_on, Stands, Answers};
 
 use lua_ast::{AstText, AstTexts, Node, NodeId};
 use lua_lexer::TokenKind;
@@ -37,7 +37,7 @@ fn after_path_name(
     ensures state { IfOk result (λ s. state_in parser.new.nodes (stack_in parser.new) s
         ≡ after_path (tree_in parser.old.nodes object) method own (begun_in parser.old.nodes block) (attributes true line name) (stack_in parser.old)) }
     ensures below { IfOk result (λ s. StateBelow (length parser.new.nodes) s) }
-    ensures once { Spends (λ w. w object + begun_weight w block) parser.old result parser.new }
+    ensures order { Stands (λ below. object ∷ begun_on block below) parser.old → Answers result parser.new }
 {
     let path = parser.field(object, line, name)?;
     if method {
@@ -70,7 +70,7 @@ fn after_first_name(
     ensures state { IfOk result (λ s. state_in parser.new.nodes (stack_in parser.new) s
         ≡ after_name (ForFunction own (begun_in parser.old.nodes block)) (stack_in parser.old) (attributes true line name)) }
     ensures below { IfOk result (λ s. StateBelow (length parser.new.nodes) s) }
-    ensures once { Spends (λ w. begun_weight w block) parser.old result parser.new }
+    ensures order { Stands (λ below. begun_on block below) parser.old → Answers result parser.new }
 {
     let path = parser.add(Node::Name { text: name }, line)?;
     Ok(State::PathNext {
@@ -91,7 +91,7 @@ fn after_name(
     ensures state { IfOk result (λ s. state_in parser.new.nodes (stack_in parser.new) s
         ≡ after_name (naming_in parser.old.nodes naming) (stack_in parser.old) (attributes true name_line name)) }
     ensures below { IfOk result (λ s. StateBelow (length parser.new.nodes) s) }
-    ensures once { Spends (λ w. naming_weight w naming) parser.old result parser.new }
+    ensures order { Stands (λ below. naming_on naming below) parser.old → Answers result parser.new }
 {
     match naming {
         Naming::ForField { limit, object } => {
@@ -150,7 +150,7 @@ pub fn name_next(
         (name_next (naming_in parser.old.nodes naming) (stack_in parser.old) (token kind) (attributes true line slice.now))
         (name_next (naming_in parser.old.nodes naming) (stack_in parser.old) (token kind) (attributes false line slice.now))
         result parser.new }
-    ensures once { Spends (λ w. naming_weight w naming) parser.old result parser.new }
+    ensures order { Stands (λ below. naming_on naming below) parser.old → Answers result parser.new }
 {
     match kind {
         TokenKind::Name => {

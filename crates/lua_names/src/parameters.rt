@@ -1,12 +1,12 @@
 //! The names and the parameters of functions (Lua 5.2 manual, 3.4.10).
 
-ghost use Rattle.std.specs.Prelude.{◌+◌, ◌≡◌, ◌<◌, ◌∷◌, [], suc, true, false, length, Some, IfOk};
+ghost use Rattle.std.specs.Prelude.{◌≡◌, ◌<◌, ◌∷◌, [], suc, true, false, length, Some, IfOk};
 ghost use Rattle.lua_ast.specs.Tree.{Function};
 ghost use Rattle.lua_grammar.specs.Signs.{token};
 ghost use Rattle.lua_grammar.specs.Pushdown.{BlockNext, InFunction, depth, body_next, path_next, param_first, param_next, param_names, params_end};
 ghost use Rattle.lua_parser_state.specs.Shown.{tree_in, stack_in, state_in, begun_in, head_in, attributes, BegunBelow, HeadBelow, StateBelow};
 ghost use Rattle.lua_parser_state.specs.Gave.{Gave, within};
-ghost use Rattle.lua_parser_state.specs.Weights.{Spends, StepsOnce, begun_weight, head_weight};
+ghost use Rattle.lua_parser_state.specs.Order.{begun_on, head_on, state_on, Stands, Answers};
 
 use lua_ast::{AstText, NodeId};
 use lua_lexer::TokenKind;
@@ -19,7 +19,7 @@ fn deepen_twice(parser: &Parser, state: State) -> Result<State, Refusal>
     requires { StateBelow (length parser.now.nodes) state }
     ensures gave { Gave (within (suc (suc (depth (stack_in parser.now)))) (state_in parser.now.nodes (stack_in parser.now) state))
         (Some (state_in parser.now.nodes (stack_in parser.now) state)) result parser.now }
-    ensures once { StepsOnce state parser.now result parser.now }
+    ensures order { Stands (λ below. state_on state below) parser.now → Answers result parser.now }
 {
     if parser.depth() >= 199 {
         return Err(Refusal::TooDeep);
@@ -34,7 +34,7 @@ pub fn body_next(parser: &mut Parser, head: Head, kind: TokenKind) -> Result<Sta
         (body_next (head_in parser.old.nodes head) (stack_in parser.old) (token kind) (attributes true 0 []))
         (body_next (head_in parser.old.nodes head) (stack_in parser.old) (token kind) (attributes false 0 []))
         result parser.new }
-    ensures once { Spends (λ w. head_weight w head) parser.old result parser.new }
+    ensures order { Stands (λ below. head_on head below) parser.old → Answers result parser.new }
 {
     match kind {
         TokenKind::OpenParen => deepen_twice(parser, State::ParamFirst { head }),
@@ -56,7 +56,7 @@ pub fn path_next(
         (path_next line (tree_in parser.old.nodes path) (begun_in parser.old.nodes block) (stack_in parser.old) (token kind) (attributes true 0 []))
         (path_next line (tree_in parser.old.nodes path) (begun_in parser.old.nodes block) (stack_in parser.old) (token kind) (attributes false 0 []))
         result parser.new }
-    ensures once { Spends (λ w. w path + begun_weight w block) parser.old result parser.new }
+    ensures order { Stands (λ below. path ∷ begun_on block below) parser.old → Answers result parser.new }
 {
     match kind {
         TokenKind::Dot => Ok(State::NameNext {
@@ -90,7 +90,7 @@ pub fn param_first(
         (param_first (head_in parser.old.nodes head) (stack_in parser.old) (token kind) (attributes true 0 slice.now))
         (param_first (head_in parser.old.nodes head) (stack_in parser.old) (token kind) (attributes false 0 slice.now))
         result parser.new }
-    ensures once { Spends (λ w. head_weight w head) parser.old result parser.new }
+    ensures order { Stands (λ below. head_on head below) parser.old → Answers result parser.new }
 {
     let mut params = Vec::new(parser.alloc());
     match kind {
@@ -118,7 +118,7 @@ pub fn param_next(
         (param_next (head_in parser.old.nodes head) params.items (stack_in parser.old) (token kind) (attributes true 0 slice.now))
         (param_next (head_in parser.old.nodes head) params.items (stack_in parser.old) (token kind) (attributes false 0 slice.now))
         result parser.new }
-    ensures once { Spends (λ w. head_weight w head) parser.old result parser.new }
+    ensures order { Stands (λ below. head_on head below) parser.old → Answers result parser.new }
 {
     match kind {
         TokenKind::Name => {
@@ -143,7 +143,7 @@ pub fn param_names(
         (param_names (head_in parser.old.nodes head) params.items (stack_in parser.old) (token kind))
         (param_names (head_in parser.old.nodes head) params.items (stack_in parser.old) (token kind))
         result parser.new }
-    ensures once { Spends (λ w. head_weight w head) parser.old result parser.new }
+    ensures order { Stands (λ below. head_on head below) parser.old → Answers result parser.new }
 {
     match kind {
         TokenKind::Comma => Ok(State::ParamNext { head, params }),
@@ -164,7 +164,7 @@ pub fn params_end(
         (params_end (head_in parser.old.nodes head) params.items (stack_in parser.old) (token kind))
         (params_end (head_in parser.old.nodes head) params.items (stack_in parser.old) (token kind))
         result parser.new }
-    ensures once { Spends (λ w. head_weight w head) parser.old result parser.new }
+    ensures order { Stands (λ below. head_on head below) parser.old → Answers result parser.new }
 {
     match kind {
         TokenKind::CloseParen => Ok(begin_body(parser, head, params, true)?),
@@ -183,7 +183,7 @@ fn begin_body(
     ensures state { IfOk result (λ s. state_in parser.new.nodes (stack_in parser.new) s
         ≡ BlockNext (InFunction (head_in parser.old.nodes head) params.items vararg ∷ stack_in parser.old)) }
     ensures below { IfOk result (λ s. StateBelow (length parser.new.nodes) s) }
-    ensures once { Spends (λ w. head_weight w head) parser.old result parser.new }
+    ensures order { Stands (λ below. head_on head below) parser.old → Answers result parser.new }
 {
     parser.push(Frame::InBlock(OpenBlock::Function {
         head,

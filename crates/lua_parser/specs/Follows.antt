@@ -1,11 +1,11 @@
 -- Where an expression is over, and what goes on then.
-use Rattle.std.specs.Prelude.{◌≡◌, ℕ, ◌+◌, List, length, Result, Ok, Err, ◌<◌, Option, None, true, false}
+use Rattle.std.specs.Prelude.{◌≡◌, ℕ, List, ◌∷◌, length, Result, Ok, Err, ◌<◌, Option, None, true, false}
 use Rattle.lua_parser.specs.declared.follow.Folded.{Folded}
 use Rattle.lua_parser.specs.declared.follow.Folded.TheVariants as folded
 use Rattle.lua_parser.specs.declared.follow.Followed.{Followed}
 use Rattle.lua_parser.specs.declared.follow.Followed.TheVariants as followed
 use Rattle.lua_parser_state.specs.Shown.{Held, attributes, tree_in, stack_in, frame_in, FrameBelow}
-use Rattle.lua_parser_state.specs.Weights.{spent_weight, made_weight, frame_weight, Balances, accounted}
+use Rattle.lua_parser_state.specs.Order.{frame_on, state_on, Stands}
 use Rattle.lua_ast.specs.declared.node.LinedNode.{LinedNode}
 use Rattle.lua_ast.specs.Tree.{Tree}
 use Rattle.lua_grammar.specs.Signs.{Terminal, Attributes}
@@ -36,13 +36,13 @@ Follows c f m l s count (Ok (followed.Over o)) h =
     (c ≡ pushdown.follow (stack_in h) o.limit (tree_in h.nodes o.node) m (attributes true l s)) × (f ≡ pushdown.follow (stack_in h) o.limit (tree_in h.nodes o.node) m (attributes false l s)) × (o.node < length h.nodes) × (length h.frames < count)
 Follows c f m l s count (Err e) h = Refuses c f e
 
--- By every weight the nodes that were given are left or spent, where the expression is over. Inside something else it stays given.
-abbrev pub FoldsOnce : (had : ℕ) → Held → Folded → Held → Type 0
-FoldsOnce had before (folded.Operation o) after = Balances (λ w. w had) before (λ w. w o.node) after
-FoldsOnce had before (folded.Inside f) after = Balances (λ _. 0) before (λ w. frame_weight w f) after
-FoldsOnce had before folded.Nothing after = Unit {0}
+-- What was in hand, the expression in front, is in hand where it is over. Inside something else it stays in front of it.
+abbrev pub FoldsInOrder : (had : ℕ) → Held → Folded → Held → Type 0
+FoldsInOrder had before (folded.Operation o) after = Stands (λ below. had ∷ below) before → Stands (λ below. o.node ∷ below) after
+FoldsInOrder had before (folded.Inside f) after = Stands (λ below. had ∷ below) before → Stands (λ below. had ∷ frame_on f below) after
+FoldsInOrder had before folded.Nothing after = Unit {0}
 
-abbrev pub FollowsOnce : {E : Type 0} → (had : ℕ) → Held → Result Followed E → Held → Type 0
-FollowsOnce had before (Ok (followed.Goes s)) after = (w : ℕ → ℕ) → accounted w s after + made_weight w before ≡ w had + spent_weight w before + made_weight w after
-FollowsOnce had before (Ok (followed.Over o)) after = Balances (λ w. w had) before (λ w. w o.node) after
-FollowsOnce had before (Err e) after = Unit {0}
+abbrev pub FollowsInOrder : {E : Type 0} → (had : ℕ) → Held → Result Followed E → Held → Type 0
+FollowsInOrder had before (Ok (followed.Goes s)) after = Stands (λ below. had ∷ below) before → Stands (λ below. state_on s below) after
+FollowsInOrder had before (Ok (followed.Over o)) after = Stands (λ below. had ∷ below) before → Stands (λ below. o.node ∷ below) after
+FollowsInOrder had before (Err e) after = Unit {0}

@@ -1,13 +1,13 @@
 //! What follows an expression.
 
-ghost use Rattle.std.specs.Prelude.{◌+◌, ◌<◌, true, false, length, Some, None, IfOk};
+ghost use Rattle.std.specs.Prelude.{◌<◌, true, false, length, Some, None, IfOk, ◌∷◌};
 ghost use Rattle.lua_grammar.specs.Pushdown.{close, follow, rest, field_name};
 ghost use Rattle.lua_grammar.specs.Signs.{token};
 ghost use Rattle.lua_ast.specs.Decode.{fields_of};
 ghost use Rattle.lua_parser_state.specs.Shown.{tree_in, stack_in, frame_in, purpose_in, attributes, TableBelow, FrameBelow};
 ghost use Rattle.lua_parser_state.specs.Gave.{Gave, terminal_of};
-ghost use Rattle.lua_parser.specs.Follows.{Folds, IsKept, IsFewer, Follows, FoldsOnce, FollowsOnce};
-ghost use Rattle.lua_parser_state.specs.Weights.{Spends, frame_weight, table_weight};
+ghost use Rattle.lua_parser.specs.Follows.{Folds, IsKept, IsFewer, Follows, FoldsInOrder, FollowsInOrder};
+ghost use Rattle.lua_parser_state.specs.Order.{table_on, frame_on, Stands, Answers};
 
 use lua_ast::{AstText, Field, Node, NodeId};
 use lua_blocks::close_in_header;
@@ -63,7 +63,7 @@ pub fn close(
         (close (frame_in parser.old.nodes frame) (tree_in parser.old.nodes had) (stack_in parser.old) (terminal_of kind) (attributes true line slice.now))
         (close (frame_in parser.old.nodes frame) (tree_in parser.old.nodes had) (stack_in parser.old) (terminal_of kind) (attributes false line slice.now))
         result parser.new }
-    ensures once { Spends (λ w. frame_weight w frame + w had) parser.old result parser.new }
+    ensures order { Stands (λ below. had ∷ frame_on frame below) parser.old → Answers result parser.new }
 {
     match frame {
         Frame::InParen { limit, line } => close_paren(parser, limit, line, had, kind),
@@ -97,7 +97,7 @@ fn fold(parser: &mut Parser, had: NodeId) -> Result<Folded, AllocError>
     ensures folds { IfOk result (λ folded. Folds (stack_in parser.old) (tree_in parser.old.nodes had) folded parser.new) }
     ensures kept { IfOk result (λ folded. IsKept folded parser.old.nodes parser.new.nodes) }
     ensures fewer { IfOk result (λ folded. IsFewer folded (length parser.old.frames) (length parser.new.frames)) }
-    ensures once { IfOk result (λ folded. FoldsOnce had parser.old folded parser.new) }
+    ensures order { IfOk result (λ folded. FoldsInOrder had parser.old folded parser.new) }
 {
     let Some(frame) = parser.pop() else {
         return Ok(Folded::Nothing);
@@ -129,7 +129,7 @@ fn follow_once(
         (follow (stack_in parser.old) limit (tree_in parser.old.nodes had) (terminal_of kind) (attributes true line slice.now))
         (follow (stack_in parser.old) limit (tree_in parser.old.nodes had) (terminal_of kind) (attributes false line slice.now))
         (terminal_of kind) line slice.now (length parser.old.frames) result parser.new }
-    ensures once { FollowsOnce had parser.old result parser.new }
+    ensures order { FollowsInOrder had parser.old result parser.new }
 {
     match suffix_at(parser, limit, had, kind) {
         Some(suffix) => match extend(parser, suffix, limit, had, kind, line, slice) {
@@ -153,7 +153,7 @@ fn over(
         (rest (stack_in parser.old) (tree_in parser.old.nodes had) (terminal_of kind) (attributes true line slice.now))
         (rest (stack_in parser.old) (tree_in parser.old.nodes had) (terminal_of kind) (attributes false line slice.now))
         (terminal_of kind) line slice.now (length parser.old.frames) result parser.new }
-    ensures once { FollowsOnce had parser.old result parser.new }
+    ensures order { FollowsInOrder had parser.old result parser.new }
 {
     match fold(parser, had)? {
         Folded::Operation(operand) => Ok(Followed::Over(operand)),
@@ -179,7 +179,7 @@ pub fn follow(
         (follow (stack_in parser.old) limit (tree_in parser.old.nodes had) (terminal_of kind) (attributes true line slice.now))
         (follow (stack_in parser.old) limit (tree_in parser.old.nodes had) (terminal_of kind) (attributes false line slice.now))
         result parser.new }
-    ensures once { Spends (λ w. w had) parser.old result parser.new }
+    ensures order { Stands (λ below. had ∷ below) parser.old → Answers result parser.new }
 {
     let mut operand = Operand { limit, node: had };
     'operands: loop {
@@ -206,7 +206,7 @@ pub fn field_name(
         (field_name (purpose_in parser.old.nodes table.purpose) table.line (fields_of (tree_in parser.old.nodes) table.fields) own name (stack_in parser.old) (token kind) (attributes true line slice.now))
         (field_name (purpose_in parser.old.nodes table.purpose) table.line (fields_of (tree_in parser.old.nodes) table.fields) own name (stack_in parser.old) (token kind) (attributes false line slice.now))
         result parser.new }
-    ensures once { Spends (λ w. table_weight w table) parser.old result parser.new }
+    ensures order { Stands (λ below. table_on table below) parser.old → Answers result parser.new }
 {
     match kind {
         TokenKind::Assign => {

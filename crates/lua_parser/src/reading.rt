@@ -10,7 +10,8 @@ ghost use Rattle.lua_grammar.specs.Pushdown.{step_from};
 ghost use Rattle.lua_grammar.specs.Deciding.{reading, reading_at_end};
 ghost use Rattle.lua_parser.specs.Parsing.{tree_of, HasTree, IsRefusal, HasReading, AreFit, refusal_at};
 ghost use Rattle.lua_ast.specs.Once.{IsEachOnce};
-ghost use Rattle.lua_parser_state.specs.Weights.{spent_weight, made_weight, accounted};
+ghost use Rattle.lua_ast.specs.Numbered.{IsNumbered};
+ghost use Rattle.lua_parser_state.specs.Order.{state_on, Stands};
 ghost use Rattle.lua_parser_state.specs.Shown.{stack_in, state_in, attributes, StateBelow};
 
 use crate::parse_error::ParseError;
@@ -28,6 +29,7 @@ pub fn parse(alloc: Global, text: &[u8], tokens: &[Token]) -> Result<Chunk, Pars
     ensures whole { (t : Tree) → Parses text.now tokens.now t → HasTree t result }
     ensures fails { IfErr result (λ error. IsRefusal text.now tokens.now error) }
     ensures once { IfOk result (λ chunk. IsEachOnce chunk) }
+    ensures numbered { IfOk result (λ chunk. IsNumbered chunk) }
 {
     lua_lexer::laws::tokens_of_text();
     lua_lexer::laws::values_of_tokens();
@@ -40,6 +42,7 @@ fn parse_tokens(alloc: Global, text: &[u8], tokens: &[Token]) -> Result<Chunk, P
     requires fit { AreFit text.now tokens.now }
     ensures answers { HasReading text.now tokens.now (reading text.now tokens.now) result }
     ensures once { IfOk result (λ chunk. IsEachOnce chunk) }
+    ensures numbered { IfOk result (λ chunk. IsNumbered chunk) }
 {
     let mut parser = Parser::new(alloc);
     match read(&mut parser, text, tokens) {
@@ -52,12 +55,12 @@ fn parse_tokens(alloc: Global, text: &[u8], tokens: &[Token]) -> Result<Chunk, P
 fn read(parser: &mut Parser, text: &[u8], tokens: &[Token]) -> Result<State, ParseError>
     requires fit { AreFit text.now tokens.now }
     requires nothing { stack_in parser.old ≡ [] }
-    requires balance { (w : ℕ → ℕ) → spent_weight w parser.old ≡ made_weight w parser.old }
+    requires order { Stands (λ below. below) parser.old }
     ensures state { IfOk result (λ state. reading text.now tokens.now
         ≡ reading_at_end (step_from (state_in parser.new.nodes (stack_in parser.new) state) end (attributes true 1 []))) }
     ensures below { IfOk result (λ state. StateBelow (length parser.new.nodes) state) }
     ensures refused { IfErr result (λ error. HasReading text.now tokens.now (reading text.now tokens.now) (Err error)) }
-    ensures once { IfOk result (λ state. (w : ℕ → ℕ) → accounted w state parser.new ≡ made_weight w parser.new) }
+    ensures order { IfOk result (λ state. Stands (λ below. state_on state below) parser.new) }
 {
     let mut state = State::BlockNext;
     for token in tokens {
@@ -81,13 +84,13 @@ fn refusal_at(refusal: Refusal, start: u32) -> ParseError
 }
 
 /// The chunk of a text of this many bytes, which ends in this state.
-#[tactic(auto, unfolding(lua_parser_state::specs::Weights::made_weight))]
 fn finish(mut parser: Parser, state: State, len: u32) -> Result<Chunk, ParseError>
     requires below { StateBelow (length parser.nodes) state }
-    requires balance { (w : ℕ → ℕ) → accounted w state parser ≡ made_weight w parser }
+    requires order { Stands (λ below. state_on state below) parser }
     ensures answers { (text : List ℕ) (ts : List token_at) → length text ≡ len → HasReading text ts
         (reading_at_end (step_from (state_in parser.nodes (stack_in parser) state) end (attributes true 1 []))) result }
     ensures once { IfOk result (λ chunk. IsEachOnce chunk) }
+    ensures numbered { IfOk result (λ chunk. IsNumbered chunk) }
 {
     let last = match end(&mut parser, state) {
         Ok(last) => last,

@@ -5,7 +5,7 @@ ghost use Rattle.lua_grammar.specs.Signs.{token, end};
 ghost use Rattle.lua_grammar.specs.Pushdown.{begun, next, step_from};
 ghost use Rattle.lua_parser_state.specs.Shown.{stack_in, state_in, attributes, StateBelow};
 ghost use Rattle.lua_parser_state.specs.Gave.{Gave, IsSmall, terminal_of};
-ghost use Rattle.lua_parser_state.specs.Weights.{Spends, StepsOnce};
+ghost use Rattle.lua_parser_state.specs.Order.{state_on, Stands, Answers};
 
 use crate::follow::{field_name, follow};
 use lua_ast::Ids;
@@ -31,7 +31,7 @@ fn block_next(
     ensures gave { Gave
         (next (begun line) (stack_in parser.old) (terminal_of kind) (attributes true line slice.now))
         (next (begun line) (stack_in parser.old) (terminal_of kind) (attributes false line slice.now)) result parser.new }
-    ensures once { Spends (λ _. 0) parser.old result parser.new }
+    ensures order { Stands (λ below. below) parser.old → Answers result parser.new }
 {
     let stats = Ids::new(parser.alloc());
     next(parser, Begun { line, stats }, kind, line, slice)
@@ -51,7 +51,7 @@ pub fn step(
         (step_from (state_in parser.old.nodes (stack_in parser.old) state) (token kind) (attributes true here slice.now))
         (step_from (state_in parser.old.nodes (stack_in parser.old) state) (token kind) (attributes false here slice.now))
         result parser.new }
-    ensures once { StepsOnce state parser.old result parser.new }
+    ensures order { Stands (λ below. state_on state below) parser.old → Answers result parser.new }
 {
     match state {
         State::Need { limit } => begin(parser, limit, kind, here, slice),
@@ -99,7 +99,7 @@ pub fn end(parser: &mut Parser, state: State) -> Result<State, Refusal>
         (step_from (state_in parser.old.nodes (stack_in parser.old) state) end (attributes true 1 []))
         (step_from (state_in parser.old.nodes (stack_in parser.old) state) end (attributes false 1 []))
         result parser.new }
-    ensures once { StepsOnce state parser.old result parser.new }
+    ensures order { Stands (λ below. state_on state below) parser.old → Answers result parser.new }
 {
     match state {
         State::Have { limit, node } => follow(parser, limit, node, None, 1, &[]),

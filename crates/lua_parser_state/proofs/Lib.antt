@@ -1,5 +1,5 @@
 pub mod Nodes
-pub mod Weighing
+pub mod Ordering
 pub mod Lists
 pub mod Rooms
 pub mod Steps

@@ -1,4 +1,4 @@
 pub mod Depth
 pub mod Shown
-pub mod Weights
+pub mod Order
 pub mod Gave

@@ -1,10 +1,10 @@
 //! Steps that many rules share: nodes and frames that are added.
 
-ghost use Rattle.std.specs.Prelude.{◌≡◌, ◌<◌, ◌+◌, ◌∷◌, suc, length, Some, IfOk, OnOk, ◌≤◌, true};
+ghost use Rattle.std.specs.Prelude.{◌≡◌, ◌<◌, ◌∷◌, ℕ, List, suc, length, Some, IfOk, OnOk, ◌≤◌, true};
 ghost use Rattle.lua_ast.specs.Decode.{PartsBelow, node_tree};
 ghost use Rattle.lua_grammar.specs.Pushdown.{Need, BlockNext, Have, add, depth, lift, block_of};
-ghost use Rattle.lua_ast.specs.Weights.{parts_weight};
-ghost use Rattle.lua_parser_state.specs.Weights.{begun_weight, block_weight, frame_weight, Balances, Spends, StepsOnce};
+ghost use Rattle.lua_ast.specs.Postfix.{Leaves, parts_on};
+ghost use Rattle.lua_parser_state.specs.Order.{begun_on, block_on, frame_on, state_on, Stands, Answers};
 ghost use Rattle.lua_parser_state.specs.Shown.{tree_in, stack_in, state_in, begun_in, block_in, frame_in, BegunBelow, BlockBelow, FrameBelow, StateBelow, attributes};
 ghost use Rattle.lua_parser_state.specs.Gave.{Gave, within};
 ghost use Rattle.lua_grammar.specs.Grammar.{field_of};
@@ -25,14 +25,14 @@ impl Parser {
         ensures state { IfOk result (λ s. state_in self.new.nodes (stack_in self.new) s
             ≡ Have limit (node_tree (tree_in self.old.nodes) 0 line node) (stack_in self.old)) }
         ensures below { IfOk result (λ s. StateBelow (length self.new.nodes) s) }
-        ensures once { Spends (λ w. parts_weight w node) self.old result self.new }
+        ensures order { Stands (λ below. parts_on node below) self.old → Answers result self.new }
     {
         let node = self.add(node, line)?;
         Ok(State::Have { limit, node })
     }
 
     /// Adds the node of a statement, and appends it to the statements of its block.
-    #[tactic(auto, using(lua_ast::proofs::Growing::list_of_push, lua_ast::proofs::PlacesBelow::below_push, lua_ast::proofs::PlacesBelow::below_more, crate::proofs::Weighing::list_push))]
+    #[tactic(auto, using(lua_ast::proofs::Growing::list_of_push, lua_ast::proofs::PlacesBelow::below_push, lua_ast::proofs::PlacesBelow::below_more, crate::proofs::Ordering::list_on_push))]
     pub fn statement(
         &mut self,
         mut block: Begun,
@@ -45,8 +45,9 @@ impl Parser {
             ≡ add (begun_in self.old.nodes block) (node_tree (tree_in self.old.nodes) 0 line node)) }
         ensures stack { OnOk result (stack_in self.new ≡ stack_in self.old) }
         ensures below { IfOk result (λ b. BegunBelow (length self.new.nodes) b) }
-        ensures once { IfOk result (λ b. Balances
-            (λ w. begun_weight w block + parts_weight w node) self.old (λ w. begun_weight w b) self.new) }
+        ensures frames { OnOk result (self.new.frames ≡ self.old.frames) }
+        ensures order { IfOk result (λ b. (below : List ℕ) →
+            Leaves self.old.nodes (parts_on node (begun_on block below)) → Leaves self.new.nodes (begun_on b below)) }
     {
         let id = self.add(node, line)?;
         block.stats.push(id)?;
@@ -59,8 +60,9 @@ impl Parser {
         ensures tree { IfOk result (λ id. tree_in self.new.nodes id ≡ block_of (begun_in self.old.nodes block)) }
         ensures within { IfOk result (λ id. id < length self.new.nodes) }
         ensures stack { OnOk result (stack_in self.new ≡ stack_in self.old) }
-        ensures once { IfOk result (λ id.
-            Balances (λ w. begun_weight w block) self.old (λ w. w id) self.new) }
+        ensures frames { OnOk result (self.new.frames ≡ self.old.frames) }
+        ensures order { IfOk result (λ id. (below : List ℕ) →
+            Leaves self.old.nodes (begun_on block below) → Leaves self.new.nodes (id ∷ below)) }
     {
         let Begun { line, stats } = block;
         Ok(self.add(Node::Block { stats }, line)?)
@@ -72,7 +74,7 @@ impl Parser {
         requires { StateBelow (length self.now.nodes) state }
         ensures gave { Gave (within (suc (depth (stack_in self.now))) (state_in self.now.nodes (stack_in self.now) state))
             (Some (state_in self.now.nodes (stack_in self.now) state)) result self.now }
-        ensures once { StepsOnce state self.now result self.now }
+        ensures order { Stands (λ below. state_on state below) self.now → Answers result self.now }
     {
         if self.depth() >= 200 {
             return Err(Refusal::TooDeep);
@@ -88,7 +90,7 @@ impl Parser {
             (within (lift (frame_in self.old.nodes frame) (depth (stack_in self.old)))
             (Need limit (frame_in self.old.nodes frame ∷ stack_in self.old)))
             (Some (Need limit (frame_in self.old.nodes frame ∷ stack_in self.old))) result self.new }
-        ensures once { Spends (λ w. frame_weight w frame) self.old result self.new }
+        ensures order { Stands (λ below. frame_on frame below) self.old → Answers result self.new }
     {
         if self.depth() > 200 - levels_in(&frame) {
             return Err(Refusal::TooDeep);
@@ -105,7 +107,7 @@ impl Parser {
             (within (lift (block_in self.old.nodes outer) (depth (stack_in self.old)))
             (BlockNext (block_in self.old.nodes outer ∷ stack_in self.old)))
             (Some (BlockNext (block_in self.old.nodes outer ∷ stack_in self.old))) result self.new }
-        ensures once { Spends (λ w. block_weight w outer) self.old result self.new }
+        ensures order { Stands (λ below. block_on outer below) self.old → Answers result self.new }
     {
         if self.depth() > 199 {
             return Err(Refusal::TooDeep);
@@ -125,8 +127,9 @@ impl Parser {
         ensures more { OnOk result (length self.old.nodes ≤ length self.new.nodes) }
         ensures begun { OnOk result ((b : begun) → BegunBelow (length self.old.nodes) b →
             begun_in self.new.nodes b ≡ begun_in self.old.nodes b) }
-        ensures once { IfOk result (λ id.
-            Balances (λ w. w object) self.old (λ w. w id) self.new) }
+        ensures frames { OnOk result (self.new.frames ≡ self.old.frames) }
+        ensures order { IfOk result (λ id. (below : List ℕ) →
+            Leaves self.old.nodes (object ∷ below) → Leaves self.new.nodes (id ∷ below)) }
     {
         let first_line = self.line(object);
         let value = Literal::Text(name);

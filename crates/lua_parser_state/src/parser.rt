@@ -1,6 +1,6 @@
 //! The nodes and frames of a text that is being read.
 
-ghost use Rattle.std.specs.Prelude.{◌≡◌, ◌<◌, ◌≤◌, ◌+◌, ◌∷◌, [], ℕ, length, IfOk, OnOk, IfSome, IfNone, OnSome, MatchOption};
+ghost use Rattle.std.specs.Prelude.{◌≡◌, ◌<◌, ◌≤◌, ◌∷◌, [], ℕ, List, length, IfOk, OnOk, IfSome, IfNone, OnSome, MatchOption};
 ghost use Rattle.lua_ast.specs.Tree.{line_of};
 ghost use Rattle.lua_ast.specs.Decode.{PartsBelow, node_tree};
 ghost use Rattle.lua_grammar.specs.Grammar.{is_var, is_call, is_prefix};
@@ -8,8 +8,9 @@ ghost use Rattle.lua_grammar.specs.Pushdown.{level_of, depth};
 ghost use Rattle.lua_parser_state.specs.declared.frame.Begun.{Begun as begun};
 ghost use Rattle.lua_parser_state.specs.declared.frame.Callee.{Callee as callee};
 ghost use Rattle.lua_ast.specs.Once.{IsEachOnce};
-ghost use Rattle.lua_ast.specs.Weights.{parts_weight, nodes_weight, total};
-ghost use Rattle.lua_parser_state.specs.Weights.{frame_weight, spent_weight, made_weight, Balances};
+ghost use Rattle.lua_ast.specs.Numbered.{IsNumbered};
+ghost use Rattle.lua_ast.specs.Postfix.{Leaves, parts_on};
+ghost use Rattle.lua_parser_state.specs.Order.{Stands};
 ghost use Rattle.lua_parser_state.specs.Shown.{tree_in, stack_in, begun_in, callee_in, frame_in, BegunBelow, CalleeBelow, FrameBelow};
 
 use crate::frame::Frame;
@@ -40,11 +41,11 @@ impl Model for Parser {
 
 impl Parser {
     /// Nothing was read yet.
-    #[tactic(auto, unfolding(crate::specs::Shown::stack_in, crate::specs::Weights::spent_weight, crate::specs::Weights::made_weight))]
+    #[tactic(auto, unfolding(crate::specs::Shown::stack_in), using(crate::proofs::Ordering::nothing_stands))]
     pub fn new(alloc: Global) -> Parser
         ensures nodes { result.nodes ≡ [] }
         ensures stack { stack_in result ≡ [] }
-        ensures once { (w : ℕ → ℕ) → spent_weight w result ≡ made_weight w result }
+        ensures order { Stands (λ below. below) result }
     {
         Parser {
             alloc,
@@ -54,13 +55,14 @@ impl Parser {
     }
 
     /// The chunk of these nodes, with this one as the node of the whole text.
+    #[tactic(auto, using(crate::proofs::Ordering::balance_of))]
     pub fn chunk(self, root: NodeId) -> Chunk
         requires within { root < length self.nodes }
-        requires balance { (w : ℕ → ℕ) →
-            w root + nodes_weight w self.nodes ≡ total w (length self.nodes) }
+        requires order { Leaves self.nodes (root ∷ []) }
         ensures nodes { result.nodes ≡ self.nodes }
         ensures root { result.root ≡ root }
         ensures once { IsEachOnce result }
+        ensures numbered { IsNumbered result }
     {
         let Parser {
             alloc: _,
@@ -98,26 +100,25 @@ impl Parser {
             begun_in self.new.nodes b ≡ begun_in self.old.nodes b) }
         ensures callee { OnOk result ((c : callee) → CalleeBelow (length self.old.nodes) c →
             callee_in self.new.nodes c ≡ callee_in self.old.nodes c) }
-        ensures once { IfOk result (λ id.
-            Balances (λ w. parts_weight w node) self.old (λ w. w id) self.new) }
+        ensures order { IfOk result (λ id. (below : List ℕ) →
+            Leaves self.old.nodes (parts_on node below) → Leaves self.new.nodes (id ∷ below)) }
     {
         Ok(self.nodes.push(node, line)?)
     }
 
     /// Puts a frame on top.
-    #[tactic(auto, unfolding(crate::specs::Shown::stack_in, crate::specs::Weights::spent_weight, crate::specs::Weights::made_weight))]
+    #[tactic(auto, unfolding(crate::specs::Shown::stack_in))]
     pub fn push(&mut self, frame: Frame) -> Result<(), AllocError>
         requires { FrameBelow (length self.old.nodes) frame }
         ensures nodes { OnOk result (self.new.nodes ≡ self.old.nodes) }
         ensures stack { OnOk result (stack_in self.new ≡ frame_in self.old.nodes frame ∷ stack_in self.old) }
-        ensures once { OnOk result
-            (Balances (λ w. frame_weight w frame) self.old (λ _. 0) self.new) }
+        ensures frames { OnOk result (self.new.frames ≡ frame ∷ self.old.frames) }
     {
         self.stack.push(frame)
     }
 
     /// Takes the frame on top off.
-    #[tactic(auto, unfolding(crate::specs::Shown::stack_in, crate::specs::Weights::spent_weight, crate::specs::Weights::made_weight))]
+    #[tactic(auto, unfolding(crate::specs::Shown::stack_in))]
     pub fn pop(&mut self) -> Option<Frame>
         ensures nodes { self.new.nodes ≡ self.old.nodes }
         ensures empty { IfNone result (self.new.frames ≡ []) }
@@ -125,8 +126,7 @@ impl Parser {
             (λ frame. stack_in self.old ≡ frame_in self.old.nodes frame ∷ stack_in self.new) }
         ensures below { IfSome result (λ frame. FrameBelow (length self.old.nodes) frame) }
         ensures fewer { OnSome result (length self.new.frames < length self.old.frames) }
-        ensures once { MatchOption result (Balances (λ _. 0) self.old (λ _. 0) self.new)
-            (λ frame. Balances (λ _. 0) self.old (λ w. frame_weight w frame) self.new) }
+        ensures frames { IfSome result (λ frame. self.old.frames ≡ frame ∷ self.new.frames) }
     {
         self.stack.pop()
     }

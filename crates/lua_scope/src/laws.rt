@@ -1,14 +1,15 @@
 //! Laws of what names mean. Each function does nothing, and its contract is the law.
 
-ghost use Rattle.std.specs.Prelude.{◌≡◌, Some, ◌⊎◌, ℕ, ◌==◌, true, List, []};
+ghost use Rattle.std.specs.Prelude.{◌≡◌, Some, ◌⊎◌, ℕ, ◌==◌, ◌≤◌, true, List, []};
 ghost use Rattle.std.specs.List.{list_any};
 ghost use Rattle.std.specs.List.Sorted.{IsStrictlyIncreasing};
 ghost use Rattle.lua_scope.specs.declared.occurrence.Occurrence.{Occurrence as OccurrenceOf};
 ghost use Rattle.lua_ast.specs.declared.node.Node.{Node as NodeOf};
 ghost use Rattle.lua_ast.specs.Tree.{Tree};
-ghost use Rattle.lua_ast.specs.Decode.{ChunkNodes, Ordered, node_at};
+ghost use Rattle.lua_ast.specs.Decode.{ChunkNodes, Ordered, node_at, tree, own_number};
 ghost use Rattle.lua_ast.specs.Once.{IsEachOnce};
 ghost use Rattle.lua_ast.specs.Numbers.{without_numbers};
+ghost use Rattle.lua_ast.specs.Numbered.{IsNumbered};
 ghost use Rattle.lua_parser.specs.Parsing.{tree_of};
 ghost use Rattle.lua_scope.specs.Walk.{walked};
 ghost use Rattle.lua_scope.specs.OfChunk.{occurrences_of};
@@ -16,7 +17,9 @@ ghost use Rattle.lua_scope.specs.Meets.{Meets, occurrence_at};
 ghost use Rattle.lua_scope.specs.Loads.{LoadsAs, Loads, LoadFails};
 ghost use Rattle.lua_scope.specs.Refusals.{first_refusal};
 ghost use Rattle.lua_scope.specs.declared.load_error.LoadError.{LoadError as ErrorOf};
-ghost use Rattle.lua_scope.specs.Variables.{captured_by, is_captured};
+ghost use Rattle.lua_scope.specs.declared.frame.Frame.{Frame as FrameOf};
+ghost use Rattle.lua_scope.specs.Scope.{scope, first_variable};
+ghost use Rattle.lua_scope.specs.Variables.{captured_by, is_captured, is_scope_of};
 ghost use Rattle.lua_scope.specs.Uses.{UsesInside};
 
 /// The variables that a function captures are told rising, each once.
@@ -32,6 +35,17 @@ pub fn captured_where_used()
     ensures flagged { (seen : List OccurrenceOf) (v : ℕ) → is_captured seen v ≡ true → (f : ℕ) × UsesInside seen f v }
     ensures flags { (seen : List OccurrenceOf) (f v : ℕ) → UsesInside seen f v → is_captured seen v ≡ true }
 {}
+
+/// Where a function captures a variable that a Name inside it means, each function around that
+/// Name captures it too, or it was named since that function began: by the function itself, or
+/// within it (Lua 5.2 manual, 3.5).
+pub fn captured_on_the_way()
+    ensures { (seen : List OccurrenceOf) (f g v : ℕ) (there : UsesInside seen g v) →
+        list_any (λ (frame : FrameOf). is_scope_of f frame.kind) (scope there.before).frames ≡ true →
+        (list_any (λ w. w == v) (captured_by seen f) ≡ true) ⊎ (first_variable there.before f ≤ v) }
+{
+    captured_where_used();
+}
 
 /// The walk through a text meets each Name of its chunk, and each node that names variables.
 /// `Chunk::root` tells that the nodes are in order, `Parsed::chunk` the rest.
@@ -56,4 +70,13 @@ pub fn one_answer()
 {
     lua_lexer::laws::one_reading();
     lua_grammar::one_reading();
+}
+
+/// A text that loads has one tree with numbers: chunks of it whose nodes are numbered in the order
+/// of the text name the same nodes by the same numbers, as `load` and `Parsed::chunk` give them.
+pub fn one_numbering()
+    ensures { (text : List ℕ) (c d : ChunkNodes) → LoadsAs text (tree_of c) → LoadsAs text (tree_of d) →
+        IsNumbered c → IsNumbered d → tree own_number c.nodes c.root ≡ tree own_number d.nodes d.root }
+{
+    one_answer();
 }

@@ -3,6 +3,7 @@
 ghost use Rattle.std.specs.Prelude.{◌≡◌, ◌<◌, ◌≤◌, ℕ, List, length, IfOk, IfErr};
 ghost use Rattle.lua_lexer.specs.Lexes.{Lexes};
 ghost use Rattle.lua_ast.specs.Once.{IsEachOnce};
+ghost use Rattle.lua_ast.specs.Numbered.{IsNumbered};
 ghost use Rattle.lua_parser.specs.Parsing.{tree_of};
 ghost use Rattle.lua_scope.specs.Loads.{most_text, HasTokensOf, Loads, LoadsAs, IsLoadFailure};
 ghost use Rattle.lua_scope.specs.OfChunk.{occurrences_of};
@@ -38,6 +39,7 @@ impl Model for Parsed {
     ghost use Rattle.lua_parser.specs.Parsing.{tree_of};
     ghost use Rattle.std.specs.Prelude.{length};
     ghost use Rattle.lua_ast.specs.Once.{IsEachOnce};
+    ghost use Rattle.lua_ast.specs.Numbered.{IsNumbered};
     ghost use Rattle.lua_scope.specs.OfChunk.{occurrences_of};
     ghost use Rattle.lua_scope.specs.Resolved.{TablesAre};
 
@@ -46,7 +48,7 @@ impl Model for Parsed {
     ghost view = { λ p. record { text = p.text.items; chunk = p.chunk } };
 
     ghost invariant = { λ p. LoadsAs p.text.items (tree_of p.chunk) × IsEachOnce p.chunk
-        × TablesAre (length p.chunk.nodes) p.tables (occurrences_of p.chunk) };
+        × TablesAre (length p.chunk.nodes) p.tables (occurrences_of p.chunk) × IsNumbered p.chunk };
 }
 
 /// The tokens of a text.
@@ -66,6 +68,7 @@ fn chunk_of(alloc: Global, text: &[u8]) -> Result<Chunk, LoadError>
     requires { length text.now ≤ most_text }
     ensures chunk { IfOk result (λ chunk. HasTokensOf text.now (tree_of chunk)) }
     ensures once { IfOk result (λ chunk. IsEachOnce chunk) }
+    ensures numbered { IfOk result (λ chunk. IsNumbered chunk) }
     ensures fails { IfErr result (λ error. IsLoadFailure text.now error) }
 {
     let tokens = tokens_of(alloc, text)?;
@@ -81,6 +84,7 @@ pub fn load(alloc: Global, text: Vec<u8>) -> Result<Parsed, LoadError>
     ensures text { IfOk result (λ parsed. parsed.text ≡ text.items) }
     ensures tree { IfOk result (λ parsed. LoadsAs text.items (tree_of parsed.chunk)) }
     ensures once { IfOk result (λ parsed. IsEachOnce parsed.chunk) }
+    ensures numbered { IfOk result (λ parsed. IsNumbered parsed.chunk) }
     ensures loads { IfOk result (λ _. Loads text.items) }
     ensures fails { IfErr result (λ error. IsLoadFailure text.items error) }
 {
@@ -106,11 +110,13 @@ impl Parsed {
         self.text.as_slice()
     }
 
-    /// The nodes of the text's tree, in which each of them stands once.
+    /// The nodes of the text's tree, in which each of them stands once, numbered in the order of
+    /// the text: each after its parts, the root last.
     pub fn chunk(&self) -> &Chunk
         ensures chunk { result.now ≡ self.now.chunk }
         ensures loads { LoadsAs self.now.text (tree_of self.now.chunk) }
         ensures once { IsEachOnce self.now.chunk }
+        ensures numbered { IsNumbered self.now.chunk }
     {
         &self.chunk
     }

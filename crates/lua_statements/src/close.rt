@@ -1,13 +1,13 @@
 //! What goes on where an expression of a statement is over.
 
-ghost use Rattle.std.specs.Prelude.{◌+◌, ◌<◌, [], true, false, length, Some, None};
+ghost use Rattle.std.specs.Prelude.{◌<◌, [], true, false, length, Some, None, ◌∷◌};
 ghost use Rattle.lua_ast.specs.Decode.{list_of, AllBelow};
 ghost use Rattle.lua_grammar.specs.Pushdown.{InTargets, InLocal, InAssign, InReturn, InStat, InUntil, close};
 ghost use Rattle.lua_parser_state.specs.Shown.{tree_in, stack_in, begun_in, statement_in, attributes, BegunBelow, StatementBelow};
 ghost use Rattle.lua_parser_state.specs.Gave.{Gave, terminal_of};
 ghost use Rattle.lua_statements.specs.Statements.{call_statement};
-ghost use Rattle.lua_ast.specs.Weights.{list_weight};
-ghost use Rattle.lua_parser_state.specs.Weights.{Spends, begun_weight, statement_weight};
+ghost use Rattle.lua_ast.specs.Postfix.{list_on};
+ghost use Rattle.lua_parser_state.specs.Order.{begun_on, statement_on, Stands, Answers};
 
 use crate::statement::{end_after, next_after};
 use lua_ast::{AstTexts, Ids, Node, NodeId};
@@ -29,7 +29,7 @@ pub fn close_in_statement(
         (close (statement_in parser.old.nodes statement) (tree_in parser.old.nodes had) (stack_in parser.old) (terminal_of kind) (attributes true line slice.now))
         (close (statement_in parser.old.nodes statement) (tree_in parser.old.nodes had) (stack_in parser.old) (terminal_of kind) (attributes false line slice.now))
         result parser.new }
-    ensures once { Spends (λ w. statement_weight w statement + w had) parser.old result parser.new }
+    ensures order { Stands (λ below. had ∷ statement_on statement below) parser.old → Answers result parser.new }
 {
     match statement {
         OpenStatement::Local {
@@ -79,7 +79,7 @@ fn close_until(
         (close (InUntil own (tree_in parser.old.nodes body) (begun_in parser.old.nodes block)) (tree_in parser.old.nodes had) (stack_in parser.old) (terminal_of kind) (attributes true line slice.now))
         (close (InUntil own (tree_in parser.old.nodes body) (begun_in parser.old.nodes block)) (tree_in parser.old.nodes had) (stack_in parser.old) (terminal_of kind) (attributes false line slice.now))
         result parser.new }
-    ensures once { Spends (λ w. w body + begun_weight w block + w had) parser.old result parser.new }
+    ensures order { Stands (λ below. had ∷ body ∷ begun_on block below) parser.old → Answers result parser.new }
 {
     let node = Node::Repeat {
         block: body,
@@ -89,7 +89,7 @@ fn close_until(
 }
 
 /// Appends an expression to those of a `local`, and reads the token behind it.
-#[tactic(auto, using(lua_ast::proofs::Growing::list_of_push, lua_ast::proofs::PlacesBelow::below_push, lua_parser_state::proofs::Weighing::list_push))]
+#[tactic(auto, using(lua_ast::proofs::Growing::list_of_push, lua_ast::proofs::PlacesBelow::below_push, lua_parser_state::proofs::Ordering::list_on_push))]
 fn close_local(
     parser: &mut Parser,
     own: u32,
@@ -108,7 +108,7 @@ fn close_local(
         (close (InLocal own names (list_of (tree_in parser.old.nodes) exps) (begun_in parser.old.nodes block)) (tree_in parser.old.nodes had) (stack_in parser.old) (terminal_of kind) (attributes true line slice.now))
         (close (InLocal own names (list_of (tree_in parser.old.nodes) exps) (begun_in parser.old.nodes block)) (tree_in parser.old.nodes had) (stack_in parser.old) (terminal_of kind) (attributes false line slice.now))
         result parser.new }
-    ensures once { Spends (λ w. list_weight w exps + begun_weight w block + w had) parser.old result parser.new }
+    ensures order { Stands (λ below. had ∷ list_on exps (begun_on block below)) parser.old → Answers result parser.new }
 {
     exps.push(had)?;
     let Some(token) = kind else {
@@ -133,7 +133,7 @@ fn close_local(
 }
 
 /// Appends an expression to those of an assignment, and reads the token behind it.
-#[tactic(auto, using(lua_ast::proofs::Growing::list_of_push, lua_ast::proofs::PlacesBelow::below_push, lua_parser_state::proofs::Weighing::list_push))]
+#[tactic(auto, using(lua_ast::proofs::Growing::list_of_push, lua_ast::proofs::PlacesBelow::below_push, lua_parser_state::proofs::Ordering::list_on_push))]
 fn close_assign(
     parser: &mut Parser,
     own: u32,
@@ -153,7 +153,7 @@ fn close_assign(
         (close (InAssign own (list_of (tree_in parser.old.nodes) targets) (list_of (tree_in parser.old.nodes) exps) (begun_in parser.old.nodes block)) (tree_in parser.old.nodes had) (stack_in parser.old) (terminal_of kind) (attributes true line slice.now))
         (close (InAssign own (list_of (tree_in parser.old.nodes) targets) (list_of (tree_in parser.old.nodes) exps) (begun_in parser.old.nodes block)) (tree_in parser.old.nodes had) (stack_in parser.old) (terminal_of kind) (attributes false line slice.now))
         result parser.new }
-    ensures once { Spends (λ w. list_weight w targets + list_weight w exps + begun_weight w block + w had) parser.old result parser.new }
+    ensures order { Stands (λ below. had ∷ list_on exps (list_on targets (begun_on block below))) parser.old → Answers result parser.new }
 {
     exps.push(had)?;
     let Some(token) = kind else {
@@ -178,7 +178,7 @@ fn close_assign(
 }
 
 /// Appends an expression to those of a `return`, and reads the token behind it.
-#[tactic(auto, using(lua_ast::proofs::Growing::list_of_push, lua_ast::proofs::PlacesBelow::below_push, lua_parser_state::proofs::Weighing::list_push))]
+#[tactic(auto, using(lua_ast::proofs::Growing::list_of_push, lua_ast::proofs::PlacesBelow::below_push, lua_parser_state::proofs::Ordering::list_on_push))]
 fn close_return(
     parser: &mut Parser,
     own: u32,
@@ -194,7 +194,7 @@ fn close_return(
         (close (InReturn own (list_of (tree_in parser.old.nodes) exps) (begun_in parser.old.nodes block)) (tree_in parser.old.nodes had) (stack_in parser.old) (terminal_of kind) (attributes true 0 []))
         (close (InReturn own (list_of (tree_in parser.old.nodes) exps) (begun_in parser.old.nodes block)) (tree_in parser.old.nodes had) (stack_in parser.old) (terminal_of kind) (attributes false 0 []))
         result parser.new }
-    ensures once { Spends (λ w. list_weight w exps + begun_weight w block + w had) parser.old result parser.new }
+    ensures order { Stands (λ below. had ∷ list_on exps (begun_on block below)) parser.old → Answers result parser.new }
 {
     exps.push(had)?;
     let Some(token) = kind else {
@@ -233,7 +233,7 @@ fn close_prefix(
         (close (InStat (begun_in parser.old.nodes block)) (tree_in parser.old.nodes had) (stack_in parser.old) (terminal_of kind) (attributes true line slice.now))
         (close (InStat (begun_in parser.old.nodes block)) (tree_in parser.old.nodes had) (stack_in parser.old) (terminal_of kind) (attributes false line slice.now))
         result parser.new }
-    ensures once { Spends (λ w. begun_weight w block + w had) parser.old result parser.new }
+    ensures order { Stands (λ below. had ∷ begun_on block below) parser.old → Answers result parser.new }
 {
     let own = parser.line(had);
     let Some(token) = kind else {
@@ -264,7 +264,7 @@ fn call_statement(
         (call_statement own (tree_in parser.old.nodes had) (begun_in parser.old.nodes block) (stack_in parser.old) (terminal_of kind) (attributes true line slice.now))
         (call_statement own (tree_in parser.old.nodes had) (begun_in parser.old.nodes block) (stack_in parser.old) (terminal_of kind) (attributes false line slice.now))
         result parser.new }
-    ensures once { Spends (λ w. begun_weight w block + w had) parser.old result parser.new }
+    ensures order { Stands (λ below. had ∷ begun_on block below) parser.old → Answers result parser.new }
 {
     if !parser.is_call(had) {
         return Err(Refusal::Unexpected);
@@ -296,7 +296,7 @@ fn close_target(
         (close (InTargets own (list_of (tree_in parser.old.nodes) targets) (begun_in parser.old.nodes block)) (tree_in parser.old.nodes had) (stack_in parser.old) (terminal_of kind) (attributes true 0 []))
         (close (InTargets own (list_of (tree_in parser.old.nodes) targets) (begun_in parser.old.nodes block)) (tree_in parser.old.nodes had) (stack_in parser.old) (terminal_of kind) (attributes false 0 []))
         result parser.new }
-    ensures once { Spends (λ w. list_weight w targets + begun_weight w block + w had) parser.old result parser.new }
+    ensures order { Stands (λ below. had ∷ list_on targets (begun_on block below)) parser.old → Answers result parser.new }
 {
     match kind {
         Some(token) => add_target(parser, own, targets, block, had, token),
@@ -305,7 +305,7 @@ fn close_target(
 }
 
 /// Appends a target to those of an assignment, and reads the `=` or `,` behind it.
-#[tactic(auto, using(lua_ast::proofs::Growing::list_of_push, lua_ast::proofs::PlacesBelow::below_push, lua_parser_state::proofs::Lists::list_of_none, lua_parser_state::proofs::Weighing::list_push))]
+#[tactic(auto, using(lua_ast::proofs::Growing::list_of_push, lua_ast::proofs::PlacesBelow::below_push, lua_parser_state::proofs::Lists::list_of_none, lua_parser_state::proofs::Ordering::list_on_push))]
 fn add_target(
     parser: &mut Parser,
     own: u32,
@@ -321,7 +321,7 @@ fn add_target(
         (close (InTargets own (list_of (tree_in parser.old.nodes) targets) (begun_in parser.old.nodes block)) (tree_in parser.old.nodes had) (stack_in parser.old) (terminal_of (Some token)) (attributes true 0 []))
         (close (InTargets own (list_of (tree_in parser.old.nodes) targets) (begun_in parser.old.nodes block)) (tree_in parser.old.nodes had) (stack_in parser.old) (terminal_of (Some token)) (attributes false 0 []))
         result parser.new }
-    ensures once { Spends (λ w. list_weight w targets + begun_weight w block + w had) parser.old result parser.new }
+    ensures order { Stands (λ below. had ∷ list_on targets (begun_on block below)) parser.old → Answers result parser.new }
 {
     if !parser.is_var(had) {
         return Err(Refusal::Unexpected);

@@ -6,7 +6,7 @@ ghost use Rattle.lua_grammar.specs.Signs.{token};
 ghost use Rattle.lua_grammar.specs.Pushdown.{local_next, local_names, for_name, for_names};
 ghost use Rattle.lua_parser_state.specs.Shown.{stack_in, begun_in, attributes, BegunBelow};
 ghost use Rattle.lua_parser_state.specs.Gave.{Gave, terminal_of};
-ghost use Rattle.lua_parser_state.specs.Weights.{Spends, begun_weight};
+ghost use Rattle.lua_parser_state.specs.Order.{begun_on, Stands, Answers};
 
 use crate::statement::next_after;
 use lua_ast::{AstText, AstTexts, Ids, Node};
@@ -30,7 +30,7 @@ pub fn local_next(
         (local_next own (begun_in parser.old.nodes block) (stack_in parser.old) (token kind) (attributes true line slice.now))
         (local_next own (begun_in parser.old.nodes block) (stack_in parser.old) (token kind) (attributes false line slice.now))
         result parser.new }
-    ensures once { Spends (λ w. begun_weight w block) parser.old result parser.new }
+    ensures order { Stands (λ below. begun_on block below) parser.old → Answers result parser.new }
 {
     match kind {
         TokenKind::Name => {
@@ -79,7 +79,7 @@ pub fn local_names(
         (local_names own names (begun_in parser.old.nodes block) (stack_in parser.old) (terminal_of kind) (attributes true line slice.now))
         (local_names own names (begun_in parser.old.nodes block) (stack_in parser.old) (terminal_of kind) (attributes false line slice.now))
         result parser.new }
-    ensures once { Spends (λ w. begun_weight w block) parser.old result parser.new }
+    ensures order { Stands (λ below. begun_on block below) parser.old → Answers result parser.new }
 {
     let exps = Ids::new(parser.alloc());
     let Some(token) = kind else {
@@ -125,7 +125,7 @@ pub fn for_name(
         (for_name line name (begun_in parser.old.nodes block) (stack_in parser.old) (token kind))
         (for_name line name (begun_in parser.old.nodes block) (stack_in parser.old) (token kind))
         result parser.new }
-    ensures once { Spends (λ w. begun_weight w block) parser.old result parser.new }
+    ensures order { Stands (λ below. begun_on block below) parser.old → Answers result parser.new }
 {
     match kind {
         TokenKind::Assign => {
@@ -160,7 +160,7 @@ pub fn for_names(
         (for_names line names (begun_in parser.old.nodes block) (stack_in parser.old) (token kind))
         (for_names line names (begun_in parser.old.nodes block) (stack_in parser.old) (token kind))
         result parser.new }
-    ensures once { Spends (λ w. begun_weight w block) parser.old result parser.new }
+    ensures order { Stands (λ below. begun_on block below) parser.old → Answers result parser.new }
 {
     match kind {
         TokenKind::Comma => {
@@ -185,7 +185,7 @@ fn begin_iterator(
         (for_names line names (begun_in parser.old.nodes block) (stack_in parser.old) (token In))
         (for_names line names (begun_in parser.old.nodes block) (stack_in parser.old) (token In))
         result parser.new }
-    ensures once { Spends (λ w. begun_weight w block) parser.old result parser.new }
+    ensures order { Stands (λ below. begun_on block below) parser.old → Answers result parser.new }
 {
     let exps = Ids::new(parser.alloc());
     parser.push(Frame::InHeader(OpenHeader::Iterator(GenericFor {

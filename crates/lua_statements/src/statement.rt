@@ -1,6 +1,6 @@
 //! The beginnings of statements (Lua 5.2 manual, 3.3 and section 9).
 
-ghost use Rattle.std.specs.Prelude.{◌+◌, [], ℕ, List, true, false, length, Some, None};
+ghost use Rattle.std.specs.Prelude.{[], ℕ, List, true, false, length, Some, None};
 ghost use Rattle.lua_ast.specs.Decode.{PartsBelow, node_tree, list_of, AllBelow};
 ghost use Rattle.lua_lexer.specs.declared.token.TokenKind.TheVariants.{In};
 ghost use Rattle.lua_grammar.specs.Signs.{token};
@@ -8,8 +8,8 @@ ghost use Rattle.lua_grammar.specs.Pushdown.{add, next, end_block, block_of, beg
 ghost use Rattle.lua_parser_state.specs.Shown.{tree_in, stack_in, begun_in, statement_in, attributes, BegunBelow, StatementBelow};
 ghost use Rattle.lua_parser_state.specs.Gave.{Gave, IsSmallSign, terminal_of};
 ghost use Rattle.lua_statements.specs.Statements.{begin_prefix, next_block};
-ghost use Rattle.lua_ast.specs.Weights.{list_weight, parts_weight};
-ghost use Rattle.lua_parser_state.specs.Weights.{Spends, begun_weight, statement_weight};
+ghost use Rattle.lua_ast.specs.Postfix.{list_on, parts_on};
+ghost use Rattle.lua_parser_state.specs.Order.{begun_on, statement_on, Stands, Answers};
 
 use lua_ast::{AstText, Ids, Node};
 use lua_blocks::end_block;
@@ -32,7 +32,7 @@ pub fn begin_prefix(
     ensures gave { Gave
         (begin_prefix (statement_in parser.old.nodes statement) (stack_in parser.old) (token kind) (attributes true line slice.now))
         (begin_prefix (statement_in parser.old.nodes statement) (stack_in parser.old) (token kind) (attributes false line slice.now)) result parser.new }
-    ensures once { Spends (λ w. statement_weight w statement) parser.old result parser.new }
+    ensures order { Stands (λ below. statement_on statement below) parser.old → Answers result parser.new }
 {
     parser.push(Frame::InStatement(statement))?;
     match kind {
@@ -58,7 +58,7 @@ pub fn next(
         (next (begun_in parser.old.nodes block) (stack_in parser.old) (terminal_of kind) (attributes true line slice.now))
         (next (begun_in parser.old.nodes block) (stack_in parser.old) (terminal_of kind) (attributes false line slice.now))
         result parser.new }
-    ensures once { Spends (λ w. begun_weight w block) parser.old result parser.new }
+    ensures order { Stands (λ below. begun_on block below) parser.old → Answers result parser.new }
 {
     match kind {
         Some(kind) => next_token(parser, block, kind, line, slice),
@@ -79,7 +79,7 @@ fn next_token(
         (next (begun_in parser.old.nodes block) (stack_in parser.old) (token kind) (attributes true line slice.now))
         (next (begun_in parser.old.nodes block) (stack_in parser.old) (token kind) (attributes false line slice.now))
         result parser.new }
-    ensures once { Spends (λ w. begun_weight w block) parser.old result parser.new }
+    ensures order { Stands (λ below. begun_on block below) parser.old → Answers result parser.new }
 {
     match kind {
         TokenKind::Semicolon => Ok(State::StatNext { block }),
@@ -125,7 +125,7 @@ fn next_block(
         (next_block (begun_in parser.old.nodes block) (stack_in parser.old) (token kind) (attributes true line slice))
         (next_block (begun_in parser.old.nodes block) (stack_in parser.old) (token kind) (attributes false line slice))
         result parser.new }
-    ensures once { Spends (λ w. begun_weight w block) parser.old result parser.new }
+    ensures order { Stands (λ below. begun_on block below) parser.old → Answers result parser.new }
 {
     match kind {
         TokenKind::Do => parser.enter_block(OpenBlock::Do { line, block }),
@@ -164,7 +164,7 @@ pub fn next_after(
         (next (add (begun_in parser.old.nodes block) (node_tree (tree_in parser.old.nodes) 0 own node)) (stack_in parser.old) (terminal_of kind) (attributes true line slice.now))
         (next (add (begun_in parser.old.nodes block) (node_tree (tree_in parser.old.nodes) 0 own node)) (stack_in parser.old) (terminal_of kind) (attributes false line slice.now))
         result parser.new }
-    ensures once { Spends (λ w. begun_weight w block + parts_weight w node) parser.old result parser.new }
+    ensures order { Stands (λ below. parts_on node (begun_on block below)) parser.old → Answers result parser.new }
 {
     let block = parser.statement(block, node, own)?;
     next(parser, block, kind, line, slice)
@@ -184,7 +184,7 @@ pub fn end_after(
         (end_block (stack_in parser.old) (block_of (add (begun_in parser.old.nodes block) (node_tree (tree_in parser.old.nodes) 0 own node))) (terminal_of kind) (attributes true 0 []))
         (end_block (stack_in parser.old) (block_of (add (begun_in parser.old.nodes block) (node_tree (tree_in parser.old.nodes) 0 own node))) (terminal_of kind) (attributes false 0 []))
         result parser.new }
-    ensures once { Spends (λ w. begun_weight w block + parts_weight w node) parser.old result parser.new }
+    ensures order { Stands (λ below. parts_on node (begun_on block below)) parser.old → Answers result parser.new }
 {
     let block = parser.statement(block, node, own)?;
     end_block(parser, block, kind)
@@ -203,7 +203,7 @@ pub fn label_end(
         (label_end line name (begun_in parser.old.nodes block) (stack_in parser.old) (token kind))
         (label_end line name (begun_in parser.old.nodes block) (stack_in parser.old) (token kind))
         result parser.new }
-    ensures once { Spends (λ w. begun_weight w block) parser.old result parser.new }
+    ensures order { Stands (λ below. begun_on block below) parser.old → Answers result parser.new }
 {
     match kind {
         TokenKind::DoubleColon => {
@@ -230,7 +230,7 @@ pub fn target_next(
         (target_next own (list_of (tree_in parser.old.nodes) targets) (begun_in parser.old.nodes block) (stack_in parser.old) (token kind) (attributes true line slice.now))
         (target_next own (list_of (tree_in parser.old.nodes) targets) (begun_in parser.old.nodes block) (stack_in parser.old) (token kind) (attributes false line slice.now))
         result parser.new }
-    ensures once { Spends (λ w. list_weight w targets + begun_weight w block) parser.old result parser.new }
+    ensures order { Stands (λ below. list_on targets (begun_on block below)) parser.old → Answers result parser.new }
 {
     let statement = OpenStatement::Target {
         line: own,
@@ -256,7 +256,7 @@ pub fn return_next(
         (return_next own (begun_in parser.old.nodes block) (stack_in parser.old) (terminal_of kind) (attributes true line slice.now))
         (return_next own (begun_in parser.old.nodes block) (stack_in parser.old) (terminal_of kind) (attributes false line slice.now))
         result parser.new }
-    ensures once { Spends (λ w. begun_weight w block) parser.old result parser.new }
+    ensures order { Stands (λ below. begun_on block below) parser.old → Answers result parser.new }
 {
     let exps = Ids::new(parser.alloc());
     let Some(token) = kind else {

@@ -1,7 +1,7 @@
-use Rattle.std.specs.Prelude.{◌≡◌, ◌<◌, true, false, length}
+use Rattle.std.specs.Prelude.{◌≡◌, ◌<◌, ◌∷◌, true, false, length}
 use Rattle.lua_grammar.specs.Pushdown.{follow}
 use Rattle.lua_parser_state.specs.Shown.{tree_in, stack_in, attributes}
-use Rattle.lua_parser_state.specs.Weights.{Balances}
+use Rattle.lua_parser_state.specs.Order.{Stands}
 use Rattle.lua_parser_state.specs.Gave.{terminal_of}
 use Rattle.lua_parser.proofs.follow.follow.Given as goal
 
@@ -13,7 +13,7 @@ invariant-operands l = record {
   free : follow (stack_in l.fn.parser) l.limit (tree_in l.fn.parser.nodes l.fn.had) (terminal_of l.kind) (attributes false l.line l.slice)
       ≡ follow (stack_in l.parser) l.operand.limit (tree_in l.parser.nodes l.operand.node) (terminal_of l.kind) (attributes false l.line l.slice);
   within : l.operand.node < length l.parser.nodes;
-  once : Balances (λ w. w l.fn.had) l.fn.parser (λ w. w l.operand.node) l.parser;
+  order : Stands (λ below. l.fn.had ∷ below) l.fn.parser → Stands (λ below. l.operand.node ∷ below) l.parser;
 }
 
 abbrev pub decreases-operands : goal.decreases-operands

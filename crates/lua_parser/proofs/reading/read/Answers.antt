@@ -1,5 +1,5 @@
 use Rattle.std.specs.Prelude.{ℕ, List, Err, true, false}
-use Rattle.std.proofs.Common.{ap, sym, subst, get_or, arith}
+use Rattle.std.proofs.Common.{ap, sym, subst, get_or}
 use Rattle.std.proofs.lemmas.Option.{slice_get-get_or}
 use Rattle.lua_lexer.specs.declared.token.Token.{Token}
 use Rattle.lua_lexer.specs.declared.token.TokenKind.TheVariants.{And}
@@ -22,7 +22,7 @@ unfolding reading
 loop-token-init c = record {
   rest = ap (λ (k : List pushdown.Frame). reading_from c.args.text.now c.args.tokens.now 0 (BlockNext k)) (sym c.requires.nothing);
   below = tt;
-  once = λ w. omega (arith, c.requires.balance w);
+  order = c.requires.order;
 }
 
 pub slice-requires-clause-ordered : goal.slice-requires-clause-ordered

@@ -19,7 +19,7 @@ pub invariant_of-result : goal.invariant_of-result
 invariant_of-result c =
     let le : length c.args.text.items ≤ most_text = subst (λ (n : ℕ). n ≤ 1048576) (ap length c.as_slice-bytes.ensures.value) c.if-bytes-gt-MOST_TEXT.false in
     let has : HasTokensOf c.args.text.items (tree_of c.in_ok-chunk.chunk) = subst (λ (bytes : List ℕ). HasTokensOf bytes (tree_of c.in_ok-chunk.chunk)) c.as_slice-bytes.ensures.value c.in_ok-chunk.ensures.chunk in
-    (loaded c.args.text.items c.in_ok-chunk.chunk le has c.in_ok-tables.ensures.loads, c.in_ok-chunk.ensures.once, c.in_ok-tables.ensures.tables)
+    (loaded c.args.text.items c.in_ok-chunk.chunk le has c.in_ok-tables.ensures.loads, c.in_ok-chunk.ensures.once, c.in_ok-tables.ensures.tables, c.in_ok-chunk.ensures.numbered)
 
 pub returns-clause-tree : goal.returns-clause-tree
 returns-clause-tree c =

@@ -2,9 +2,6 @@ use Rattle.std.specs.Prelude.{◌≡◌, ◌+◌, length}
 use Rattle.std.proofs.Common.{ap, ◌∙◌, sym, subst}
 use Rattle.lua_ast.specs.Decode.{no_number}
 use Rattle.lua_parser_state.specs.Shown.{Held, stack_in, begun_in, BegunBelow}
-use Rattle.lua_ast.specs.Weights.{parts_weight}
-use Rattle.lua_parser_state.specs.Weights.{spent_weight, made_weight}
-use Rattle.lua_parser_state.proofs.Weighing.{added}
 use Rattle.lua_parser_state.proofs.Nodes.{below_frames, grown, same_begun, same_stack}
 use Rattle.lua_parser_state.proofs.parser.Parser.add.Goals as goal
 
@@ -27,8 +24,3 @@ pub returns-clause-begun : goal.returns-clause-begun
 returns-clause-begun c = λ b h.
     let e : c.self.inside.nodes ≡ c.args.self.now.nodes = ap (λ (v : Held). v.nodes) c.self.view_is in
     same_begun c.self.inside.nodes c.push.new.self (λ i h. c.in_ok-push.ensures.older no_number i h) b (subst (λ ns. BegunBelow (length ns) b) (sym e) h) ∙ ap (λ ns. begun_in ns b) e
-
-pub returns-clause-once : goal.returns-clause-once
-returns-clause-once c = λ w.
-    subst (λ (h : Held). w c.in_ok-push.field-0 + spent_weight w (record { nodes = c.push.new.self; frames = c.self.inside.stack }) + made_weight w h ≡ parts_weight w c.args.node + spent_weight w h + made_weight w (record { nodes = c.push.new.self; frames = c.self.inside.stack })) c.self.view_is
-    (added c.self.inside.nodes c.push.new.self (record { node = c.args.node; line = c.args.line }) c.self.inside.stack c.in_ok-push.field-0 c.in_ok-push.ensures.nodes c.in_ok-push.ensures.id w)
