@@ -1,5 +1,5 @@
 -- Nodes in postfix order decode to a tree whose numbers are in the order of the text.
-use Rattle.std.specs.Prelude.{◌≡◌, ℕ, suc, ◌+◌, ◌<◌, List, [], ◌∷◌, ◌++◌, length, Option, Some, None, slice_get, refl}
+use Rattle.std.specs.Prelude.{◌≡◌, ℕ, ◌+◌, ◌<◌, List, [], ◌∷◌, ◌++◌, length, Option, Some, None, slice_get, refl}
 use Rattle.std.proofs.Common.{ap, ◌∙◌, sym, subst, arith, length-append}
 use Rattle.lua_ast.specs.declared.node.Node.{Node}
 use Rattle.lua_ast.specs.declared.node.Node.TheVariants as node

@@ -9,8 +9,7 @@ use Rattle.lua_ast.specs.declared.node.Field.TheVariants as field
 use Rattle.lua_ast.specs.Postfix.{list_on, maybe_on, field_on, fields_on, cases_on, parts_on, Leaves, nothing, one_more}
 use Rattle.lua_ast.specs.Weights.{list_weight, maybe_weight, field_weight, fields_weight, cases_weight, parts_weight, nodes_weight, total}
 use Rattle.lua_parser_state.specs.declared.frame.Frame.{Frame}
-use Rattle.lua_parser_state.specs.Shown.{Held}
-use Rattle.lua_parser_state.specs.Order.{frames_on, Stands}
+use Rattle.lua_parser_state.specs.Order.{frames_on}
 
 pub list_on_push : (is : List ℕ) (i : ℕ) (below : List ℕ) → list_on (is ++ i ∷ []) below ≡ i ∷ list_on is below
 list_on_push [] i below = refl

@@ -1,5 +1,5 @@
 -- What the parser has in hand, in the order of the text: numbers that were left, the last first, with those that are named here in front of them.
-use Rattle.std.specs.Prelude.{◌≡◌, ℕ, List, [], ◌∷◌, Result, Ok, Err}
+use Rattle.std.specs.Prelude.{ℕ, List, [], ◌∷◌, Result, Ok, Err}
 use Rattle.lua_ast.specs.Postfix.{list_on, maybe_on, fields_on, cases_on, Leaves}
 use Rattle.lua_parser_state.specs.declared.frame.Begun.{Begun}
 use Rattle.lua_parser_state.specs.declared.frame.Callee.{Callee}

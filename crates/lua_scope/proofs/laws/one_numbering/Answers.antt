@@ -1,4 +1,3 @@
-use Rattle.std.specs.Prelude.{◌≡◌}
 use Rattle.std.proofs.Common.{ap, sym, ◌∙◌}
 use Rattle.lua_ast.specs.Numbered.{numbered}
 use Rattle.lua_parser.specs.Parsing.{tree_of}

@@ -1,4 +1,4 @@
-use Rattle.std.specs.Prelude.{◌≡◌, ◌+◌, length}
+use Rattle.std.specs.Prelude.{◌≡◌, length}
 use Rattle.std.proofs.Common.{ap, ◌∙◌, sym, subst}
 use Rattle.lua_ast.specs.Decode.{no_number}
 use Rattle.lua_parser_state.specs.Shown.{Held, stack_in, begun_in, BegunBelow}
