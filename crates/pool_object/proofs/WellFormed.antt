@@ -15,6 +15,7 @@ use Rattle.zp_changes.proofs.CreateLaw.{create-well}
 use Rattle.zp_changes.proofs.CreateVolumeLaw.{create-volume-well}
 use Rattle.zp_changes.proofs.SnapshotLaw.{snapshot-well}
 use Rattle.zp_changes.proofs.CloneLaw.{clone-well}
+use Rattle.zp_changes.proofs.BookmarkLaw.{bookmark-well}
 use Rattle.zp_changes.proofs.MountLaw.{mount-well}
 use Rattle.zp_changes.proofs.UnmountLaw.{unmount-well}
 use Rattle.zp_changes.proofs.StampLaw.{stamp-well}
@@ -48,6 +49,7 @@ change-well now t (command.Create name) group w valid passes = create-well t nam
 change-well now t (command.CreateVolume name size) group w valid passes = create-volume-well t name size group w valid.0 passes
 change-well now t (command.Snapshot name) group w valid passes = snapshot-well t name group w (short-or-head name valid.0) passes
 change-well now t (command.Clone source name) group w valid passes = clone-well t source name group w valid.1.0 passes
+change-well now t (command.Bookmark source name) group w valid passes = bookmark-well t source name w (short-or-head name valid.1.0) passes
 change-well now t (command.Mount name) group w valid passes = mount-well t name w
 change-well now t (command.Unmount name) group w valid passes = unmount-well t name w
 change-well now t (command.Stamp name value) group w valid passes = stamp-well t name value w

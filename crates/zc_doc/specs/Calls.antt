@@ -6,7 +6,7 @@ use Rattle.serde_json.specs.Find.{get}
 use Rattle.zp_names.specs.Names.{is_valid_name}
 use Rattle.zp_names.specs.NameParts.{is_pool, pool_of}
 use Rattle.zp_names.specs.declared.command.Command.{Command}
-use Rattle.zp_names.specs.declared.command.Command.TheVariants.{Create, CreateVolume, Snapshot, Clone, Mount, Unmount, Rollback, Stamp, RenameSnapshot, Destroy, Promote, Rename, Set, Inherit, Hold, Release}
+use Rattle.zp_names.specs.declared.command.Command.TheVariants.{Create, CreateVolume, Snapshot, Clone, Bookmark, Mount, Unmount, Rollback, Stamp, RenameSnapshot, Destroy, Promote, Rename, Set, Inherit, Hold, Release}
 use Rattle.zp_names.specs.declared.command.Query.{Query}
 use Rattle.zp_names.specs.declared.command.Query.TheVariants.{Exists}
 use Rattle.zp_calls.specs.declared.call.Call.{Call}
@@ -86,6 +86,7 @@ commands pool =
     ∷ (codes "create_volume", two (λ name size. CreateVolume name size) (a_name pool (codes "name")) (a_number 1 (2 ^ 63 - 1) (codes "volsize")))
     ∷ (codes "snapshot", one (λ name. Snapshot name) (a_name pool (codes "name")))
     ∷ (codes "clone", two (λ source name. Clone source name) (a_name pool (codes "source")) (a_name pool (codes "name")))
+    ∷ (codes "bookmark", two (λ source name. Bookmark source name) (a_name pool (codes "source")) (a_name pool (codes "name")))
     ∷ (codes "mount", one (λ name. Mount name) (a_name pool (codes "name")))
     ∷ (codes "unmount", one (λ name. Unmount name) (a_name pool (codes "name")))
     ∷ (codes "rollback", one (λ name. Rollback name) (a_name pool (codes "name")))

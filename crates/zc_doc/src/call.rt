@@ -161,6 +161,7 @@ fn read_command(alloc: Global, pool: &Name, op: &str, value: &Value) -> Result<C
             name: only_name(alloc, pool, value)?,
         }),
         "clone" => read_clone(alloc, pool, value),
+        "bookmark" => read_bookmark(alloc, pool, value),
         "mount" => Ok(Command::Mount {
             name: only_name(alloc, pool, value)?,
         }),
@@ -209,6 +210,17 @@ fn read_clone(alloc: Global, pool: &Name, value: &Value) -> Result<Command, DocE
     let source = member(alloc, &NameIn { pool }, "source", value)?;
     let name = member(alloc, &NameIn { pool }, "name", value)?;
     Ok(Command::Clone { source, name })
+}
+
+#[tactic(auto, unfolding(crate::specs::Calls::command_of))]
+fn read_bookmark(alloc: Global, pool: &Name, value: &Value) -> Result<Command, DocError>
+    ensures gives { Gives result (command_of pool.now (codes "bookmark") (view value.now)) }
+    ensures names { IfOk result (λ c. HasValidNames (call.Command c)) }
+{
+    only_members(alloc, &["op", "source", "name"], value)?;
+    let source = member(alloc, &NameIn { pool }, "source", value)?;
+    let name = member(alloc, &NameIn { pool }, "name", value)?;
+    Ok(Command::Bookmark { source, name })
 }
 
 #[tactic(auto, unfolding(crate::specs::Calls::command_of))]

@@ -8,6 +8,7 @@ pub mod RenameSnapshotLaw
 pub mod CloneSettings
 pub mod CreateVolumeLaw
 pub mod CloneLaw
+pub mod BookmarkLaw
 pub mod RollbackLaw
 pub mod Fewer
 pub mod Losing

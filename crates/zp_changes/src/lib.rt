@@ -1,6 +1,7 @@
 //! The changes of the commands: what a command that passed its check makes of the tree.
 #![tactic(auto)]
 
+mod bookmark;
 mod change;
 mod clone;
 mod create;
@@ -54,6 +55,7 @@ pub fn apply<T: Datasets>(
         }
         Command::Snapshot { name } => snapshot::apply(alloc, tree, name, txg),
         Command::Clone { source, name } => clone::apply(alloc, tree, source, name, txg),
+        Command::Bookmark { source, name } => bookmark::apply(alloc, tree, source, name),
         Command::Mount { name } => mount::apply(alloc, tree, name),
         Command::Unmount { name } => unmount::apply(alloc, tree, name),
         Command::Stamp { name, value } => stamp::apply(alloc, tree, name, *value),

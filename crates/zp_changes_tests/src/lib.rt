@@ -3,6 +3,8 @@
 #![tactic(auto)]
 
 #[cfg(test)]
+mod bookmark_tests;
+#[cfg(test)]
 mod promote_tests;
 #[cfg(test)]
 mod tests;

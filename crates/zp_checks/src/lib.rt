@@ -1,6 +1,7 @@
 //! The checks of the commands: may a command be done on this tree, and if not, why.
 #![tactic(auto)]
 
+mod bookmark;
 mod clone;
 mod create;
 mod create_volume;
@@ -41,6 +42,7 @@ pub fn check<T: Datasets>(alloc: Global, tree: &T, command: &Command) -> Result<
         }
         Command::Snapshot { name } => snapshot::check(alloc, tree, name),
         Command::Clone { source, name } => clone::check(alloc, tree, source, name),
+        Command::Bookmark { source, name } => bookmark::check(alloc, tree, source, name),
         Command::Mount { name } => Ok(mount::check(alloc, tree, name)),
         Command::Unmount { name } => Ok(unmount::check(alloc, tree, name)),
         Command::Stamp { name, .. } => Ok(stamp::check(alloc, tree, name)),

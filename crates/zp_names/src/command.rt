@@ -27,6 +27,11 @@ pub enum Command {
         source: Name,
         name: Name,
     },
+    /// Make a bookmark of this name from a snapshot or from a bookmark: zfs-bookmark(8).
+    Bookmark {
+        source: Name,
+        name: Name,
+    },
     /// Mount this dataset: zfs-mount(8). Only a flag is set.
     Mount {
         name: Name,
@@ -112,6 +117,10 @@ impl Command {
                 name: name.copy(alloc)?,
             }),
             Command::Clone { source, name } => Ok(Command::Clone {
+                source: source.copy(alloc)?,
+                name: name.copy(alloc)?,
+            }),
+            Command::Bookmark { source, name } => Ok(Command::Bookmark {
                 source: source.copy(alloc)?,
                 name: name.copy(alloc)?,
             }),

@@ -11,6 +11,7 @@ pub mod Latest
 pub mod Coming
 pub mod Sums
 pub mod Found
+pub mod Marking
 pub mod VerdictTexts
 pub mod Depending
 pub mod DestroyExamples

@@ -23,6 +23,7 @@ use Rattle.zp_tree.specs.Create.{create_rows}
 use Rattle.zp_tree.specs.CreateVolume.{create_volume_rows}
 use Rattle.zp_tree.specs.TakeSnapshot.{snapshot_rows}
 use Rattle.zp_tree.specs.MakeClone.{clone_rows}
+use Rattle.zp_tree.specs.MakeBookmark.{bookmark_rows}
 use Rattle.zp_tree.specs.Mount.{mount_rows}
 use Rattle.zp_tree.specs.Unmount.{unmount_rows}
 use Rattle.zp_tree.specs.WriteStamp.{stamp_rows}
@@ -98,6 +99,7 @@ details-utf8 t (command.Create name) w = first-texts (create_rows t name) (none,
 details-utf8 t (command.CreateVolume name size) w = first-texts (create_volume_rows t name size) (none, (none, (none, (none, (none, (none, tt))))))
 details-utf8 t (command.Snapshot name) w = first-texts (snapshot_rows t name) (none, (none, (none, (none, tt))))
 details-utf8 t (command.Clone source name) w = first-texts (clone_rows t source name) (none, (none, (none, (none, (none, (none, tt))))))
+details-utf8 t (command.Bookmark source name) w = first-texts (bookmark_rows t source name) (none, (none, (none, (none, (none, (none, tt))))))
 details-utf8 t (command.Mount name) w = first-texts (mount_rows t name) (none, (none, (none, (none, tt))))
 details-utf8 t (command.Unmount name) w = first-texts (unmount_rows t name) (none, (none, (none, tt)))
 details-utf8 t (command.Stamp name value) w = first-texts (stamp_rows t name) (none, (none, (none, tt)))

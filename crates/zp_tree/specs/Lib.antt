@@ -8,6 +8,7 @@ pub mod CreateVolume
 pub mod NewPool
 pub mod TakeSnapshot
 pub mod MakeClone
+pub mod MakeBookmark
 pub mod Mount
 pub mod Unmount
 pub mod WriteStamp
