@@ -15,6 +15,8 @@ pub mod VerdictTexts
 pub mod Depending
 pub mod DestroyExamples
 mod PromoteExamples
+mod RenameExamples
+mod SettingExamples
 pub mod Passing
 pub mod Nearest
 mod InheritedExamples
