@@ -9,20 +9,20 @@ use Rattle.lua_coroutines.specs.Threads.{ThreadsOf}
 use Rattle.lua_values.specs.Ids.{Ids, ids_of, AreLater, IsOf}
 
 -- every number of the answer is of the heap
-abbrev pub IsOwnAnswer : Ids → Answer → Type 0
-IsOwnAnswer ids (Values vs) = All (IsOf ids) vs
-IsOwnAnswer ids (Raise v) = IsOf ids v
-IsOwnAnswer ids (Stopped s) = ⊤
-IsOwnAnswer ids (CallThen f args after) = IsOf ids f × All (IsOf ids) args
-IsOwnAnswer ids (Resume i args wrapped) = (i ≤ ids.threads) × All (IsOf ids) args
-IsOwnAnswer ids (Yield vs) = All (IsOf ids) vs
+abbrev pub IsOfHeap : Ids → Answer → Type 0
+IsOfHeap ids (Values vs) = All (IsOf ids) vs
+IsOfHeap ids (Raise v) = IsOf ids v
+IsOfHeap ids (Stopped s) = ⊤
+IsOfHeap ids (CallThen f args after) = IsOf ids f × All (IsOf ids) args
+IsOfHeap ids (Resume i args wrapped) = (i ≤ ids.threads) × All (IsOf ids) args
+IsOfHeap ids (Yield vs) = All (IsOf ids) vs
 
 module _ {W : Type 0} where
   -- a heap, coroutines and a host's state together
   abbrev pub state_with : HeapOf → ThreadsOf → W → State W
   state_with h t w = record { heap = h; threads = t.threads; running = t.running; host = w }
 
-  pub record Grows (before after : State W) : Type 0 where
+  pub record AddsOnly (before after : State W) : Type 0 where
     pub instructions : before.heap.used.most_instructions ≡ after.heap.used.most_instructions
     pub bytes : before.heap.used.most_bytes ≡ after.heap.used.most_bytes
     pub used : before.heap.used.instructions ≤ after.heap.used.instructions
@@ -32,6 +32,6 @@ module _ {W : Type 0} where
     pub threads : List ThreadOf
     pub added : after.threads ≡ before.threads ++ threads
 
-  pub record IsLawful (host : HostOf W) : Type 0 where
-    pub call : (id : Builtin) (args : List Value) (lines : List ℕ) (s : State W) → Grows s (host.call id args lines s).1
-    pub step : (iter : ℕ) (args : List Value) (lines : List ℕ) (s : State W) → Grows s (host.step iter args lines s).1
+  pub record IsLawfulHost (host : HostOf W) : Type 0 where
+    pub call : (id : Builtin) (args : List Value) (lines : List ℕ) (s : State W) → AddsOnly s (host.call id args lines s).1
+    pub step : (iter : ℕ) (args : List Value) (lines : List ℕ) (s : State W) → AddsOnly s (host.step iter args lines s).1

@@ -4,7 +4,7 @@ ghost use Rattle.std.specs.Prelude.{◌≡◌, ◌<◌, ◌+◌, length, All, If
 ghost use Rattle.lua_meaning.specs.Jobs.{HostOf};
 ghost use Rattle.lua_values.specs.Answers.{builtin_answer};
 ghost use Rattle.lua_values.specs.Ids.{ids_of, IsOf, AreLater};
-ghost use Rattle.lua_coroutines.specs.Hosts.{IsLawful, IsOwnAnswer, state_with};
+ghost use Rattle.lua_coroutines.specs.Hosts.{IsLawfulHost, IsOfHeap, state_with};
 
 use crate::threads::CoTable;
 use lua_meaning::{Builtin, IterId};
@@ -28,7 +28,7 @@ pub trait Host {
 
     /// A call adds to the heap and to the coroutines, makes no closure, keeps the limits and never
     /// lowers what is used.
-    ghost lawful: { IsLawful meaning };
+    ghost lawful: { IsLawfulHost meaning };
 
     /// The call of a built-in. After `NoMemory` the program isn't gone on with.
     fn call<L: Ledger>(
@@ -43,7 +43,7 @@ pub trait Host {
         requires args { All (IsOf (ids_of heap.old)) args.now }
         requires coroutines { length coroutines.old.threads ≡ heap.old.threads + 1 }
         ensures answer { IfSome (builtin_answer result) (λ a. meaning.call id args.now lines.now (state_with heap.old coroutines.old (world self.old)) ≡ (a, state_with heap.new coroutines.new (world self.new))) }
-        ensures own { IfSome (builtin_answer result) (IsOwnAnswer (ids_of heap.new)) }
+        ensures own { IfSome (builtin_answer result) (IsOfHeap (ids_of heap.new)) }
         ensures keeps { AreLater (ids_of heap.old) (ids_of heap.new) }
         ensures coroutines { IfSome (builtin_answer result) (λ _. length coroutines.new.threads ≡ heap.new.threads + 1) };
 
@@ -61,7 +61,7 @@ pub trait Host {
         requires args { All (IsOf (ids_of heap.old)) args.now }
         requires coroutines { length coroutines.old.threads ≡ heap.old.threads + 1 }
         ensures answer { IfSome (builtin_answer result) (λ a. meaning.step iter args.now lines.now (state_with heap.old coroutines.old (world self.old)) ≡ (a, state_with heap.new coroutines.new (world self.new))) }
-        ensures own { IfSome (builtin_answer result) (IsOwnAnswer (ids_of heap.new)) }
+        ensures own { IfSome (builtin_answer result) (IsOfHeap (ids_of heap.new)) }
         ensures keeps { AreLater (ids_of heap.old) (ids_of heap.new) }
         ensures coroutines { IfSome (builtin_answer result) (λ _. length coroutines.new.threads ≡ heap.new.threads + 1) };
 }

@@ -48,61 +48,61 @@ module _ (ids : Ids) where
   IsOwnTarget (target.Entry object key) = IsOf ids object × IsOf ids key
   IsOwnTarget _ = ⊤
 
-  abbrev pub IsOwnBody : BodyFrame → Type 0
-  IsOwnBody (body.Caller call) = IsOwnCall call
-  IsOwnBody _ = ⊤
+  abbrev pub IsOwnBodyFrame : BodyFrame → Type 0
+  IsOwnBodyFrame (body.Caller call) = IsOwnCall call
+  IsOwnBodyFrame _ = ⊤
 
-  abbrev pub IsOwnAssign : AssignFrame → Type 0
-  IsOwnAssign (assign.Object node next index targets) = All IsOwnTarget targets
-  IsOwnAssign (assign.Key node next targets object) = All IsOwnTarget targets × IsOf ids object
-  IsOwnAssign (assign.Values node next targets values) = All IsOwnTarget targets × AreOf values
-  IsOwnAssign (assign.Stores node targets values) = All IsOwnTarget targets × AreOf values
-  IsOwnAssign (assign.Function node) = ⊤
+  abbrev pub IsOwnAssignFrame : AssignFrame → Type 0
+  IsOwnAssignFrame (assign.Object node next index targets) = All IsOwnTarget targets
+  IsOwnAssignFrame (assign.Key node next targets object) = All IsOwnTarget targets × IsOf ids object
+  IsOwnAssignFrame (assign.Values node next targets values) = All IsOwnTarget targets × AreOf values
+  IsOwnAssignFrame (assign.Stores node targets values) = All IsOwnTarget targets × AreOf values
+  IsOwnAssignFrame (assign.Function node) = ⊤
 
-  abbrev pub IsOwnCallee : CalleeFrame → Type 0
-  IsOwnCallee (callee.Method node receiver) = IsOf ids receiver
-  IsOwnCallee _ = ⊤
+  abbrev pub IsOwnCalleeFrame : CalleeFrame → Type 0
+  IsOwnCalleeFrame (callee.Method node receiver) = IsOf ids receiver
+  IsOwnCalleeFrame _ = ⊤
 
-  abbrev pub IsOwnCount : CountFrame → Type 0
-  IsOwnCount (count_loop.Limit node first) = IsOf ids first
-  IsOwnCount (count_loop.Step node first limit) = IsOf ids first × IsOf ids limit
-  IsOwnCount _ = ⊤
+  abbrev pub IsOwnCountFrame : CountFrame → Type 0
+  IsOwnCountFrame (count_loop.Limit node first) = IsOf ids first
+  IsOwnCountFrame (count_loop.Step node first limit) = IsOf ids first × IsOf ids limit
+  IsOwnCountFrame _ = ⊤
 
-  abbrev pub IsOwnEach : EachFrame → Type 0
-  IsOwnEach (each_loop.Values node next values) = AreOf values
-  IsOwnEach (each_loop.Next node function state outer) = IsOf ids function × IsOf ids state
-  IsOwnEach (each_loop.Turn node function state control outer before) = IsOf ids function × IsOf ids state × IsOf ids control
+  abbrev pub IsOwnEachFrame : EachFrame → Type 0
+  IsOwnEachFrame (each_loop.Values node next values) = AreOf values
+  IsOwnEachFrame (each_loop.Next node function state outer) = IsOf ids function × IsOf ids state
+  IsOwnEachFrame (each_loop.Turn node function state control outer before) = IsOf ids function × IsOf ids state × IsOf ids control
 
-  abbrev pub IsOwnTable : TableFrame → Type 0
-  IsOwnTable (table.Item node next t count) = t < ids.tables
-  IsOwnTable (table.Key node next t count value) = t < ids.tables
-  IsOwnTable (table.Entry node next t count key) = (t < ids.tables) × IsOf ids key
+  abbrev pub IsOwnTableFrame : TableFrame → Type 0
+  IsOwnTableFrame (table.Item node next t count) = t < ids.tables
+  IsOwnTableFrame (table.Key node next t count value) = t < ids.tables
+  IsOwnTableFrame (table.Entry node next t count key) = (t < ids.tables) × IsOf ids key
 
-  abbrev pub IsOwnOperand : OperandFrame → Type 0
-  IsOwnOperand (operand.Right node left) = IsOf ids left
-  IsOwnOperand (operand.Key node object) = IsOf ids object
-  IsOwnOperand _ = ⊤
+  abbrev pub IsOwnOperandFrame : OperandFrame → Type 0
+  IsOwnOperandFrame (operand.Right node left) = IsOf ids left
+  IsOwnOperandFrame (operand.Key node object) = IsOf ids object
+  IsOwnOperandFrame _ = ⊤
 
-  abbrev pub IsOwnNative : NativeFrame → Type 0
-  IsOwnNative (native.Waits after lines caller) = IsOwnCall caller
-  IsOwnNative (native.Yields lines caller) = IsOwnCall caller
-  IsOwnNative (native.Resumes wrapped lines caller below) = IsOwnCall caller
+  abbrev pub IsOwnNativeFrame : NativeFrame → Type 0
+  IsOwnNativeFrame (native.Waits after lines caller) = IsOwnCall caller
+  IsOwnNativeFrame (native.Yields lines caller) = IsOwnCall caller
+  IsOwnNativeFrame (native.Resumes wrapped lines caller below) = IsOwnCall caller
 
   abbrev pub IsOwnFrame : Frame → Type 0
-  IsOwnFrame (frame.Body f) = IsOwnBody f
+  IsOwnFrame (frame.Body f) = IsOwnBodyFrame f
   IsOwnFrame (frame.Locals node next values) = AreOf values
-  IsOwnFrame (frame.Assign f) = IsOwnAssign f
-  IsOwnFrame (frame.Callee f) = IsOwnCallee f
+  IsOwnFrame (frame.Assign f) = IsOwnAssignFrame f
+  IsOwnFrame (frame.Callee f) = IsOwnCalleeFrame f
   IsOwnFrame (frame.Args node next function values) = IsOf ids function × AreOf values
   IsOwnFrame (frame.If node test) = ⊤
   IsOwnFrame (frame.While f) = ⊤
   IsOwnFrame (frame.Repeat f) = ⊤
-  IsOwnFrame (frame.Count f) = IsOwnCount f
-  IsOwnFrame (frame.Each f) = IsOwnEach f
-  IsOwnFrame (frame.Table f) = IsOwnTable f
-  IsOwnFrame (frame.Operand f) = IsOwnOperand f
+  IsOwnFrame (frame.Count f) = IsOwnCountFrame f
+  IsOwnFrame (frame.Each f) = IsOwnEachFrame f
+  IsOwnFrame (frame.Table f) = IsOwnTableFrame f
+  IsOwnFrame (frame.Operand f) = IsOwnOperandFrame f
   IsOwnFrame (frame.Return node next values) = AreOf values
-  IsOwnFrame (frame.Native f) = IsOwnNative f
+  IsOwnFrame (frame.Native f) = IsOwnNativeFrame f
 
   abbrev pub IsOwnMode : Mode → Type 0
   IsOwnMode (mode.Give values) = AreOf values
@@ -118,6 +118,6 @@ module _ (ids : Ids) where
   IsOwnMode _ = ⊤
 
 -- The call in progress and the frames hold numbers of the heap alone.
-pub record AreOwn (ids : Ids) (at : CallOf) (fs : List Frame) : Type 0 where
+pub record AreOfHeap (ids : Ids) (at : CallOf) (fs : List Frame) : Type 0 where
   pub call : IsOwnCall ids at
   pub frames : All (IsOwnFrame ids) fs
