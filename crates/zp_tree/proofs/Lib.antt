@@ -21,3 +21,4 @@ pub mod Passing
 pub mod Nearest
 mod InheritedExamples
 pub mod RecordNames
+pub mod ByteOrder
