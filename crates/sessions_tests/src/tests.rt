@@ -1,9 +1,17 @@
 //! Runs on threads.
 use crate::{AllQueued, SecondFirst, additions, run_counter, session_of};
-use sessions::NoGate;
-use shared_pool_tests::Request;
+use sessions::{NoGate, Run};
+use shared_pool_tests::{Counter, Request};
 use std::test::Fail;
 use txg_core::Event;
+
+/// Whether the session was given these replies.
+fn was_told(run: &Run<Counter>, session: usize, replies: &[u64]) -> bool {
+    match run.replies.get(session) {
+        Some(given) => given.as_slice() == replies,
+        None => false,
+    }
+}
 
 #[test]
 fn one_session(rt: HostRuntime) -> Result<(), Fail> {
@@ -27,7 +35,7 @@ fn one_session(rt: HostRuntime) -> Result<(), Fail> {
     ];
     assert!(rt; run.journal.as_slice() == &journal[..]);
     assert!(rt; run.object.value == 6 && run.synced == 1 && run.replies.len() == 1);
-    assert!(rt; run.replies[0].as_slice() == &[6, 6, 6][..]);
+    assert!(rt; was_told(&run, 0, &[6, 6, 6]));
     Ok(())
 }
 
@@ -47,8 +55,8 @@ fn the_second_session_first(rt: HostRuntime) -> Result<(), Fail> {
     let gate = SecondFirst::new();
     let run = run_counter(&rt, alloc, 0, additions(alloc, 2, 1)?, &gate)?;
     assert!(rt; gate.was_in_time());
-    assert!(rt; run.replies[0].as_slice() == &[2][..]);
-    assert!(rt; run.replies[1].as_slice() == &[1][..]);
+    assert!(rt; was_told(&run, 0, &[2]));
+    assert!(rt; was_told(&run, 1, &[1]));
     assert!(rt; run.synced == 2 && run.journal.len() == 16);
     Ok(())
 }
