@@ -6,11 +6,11 @@ import sys
 TOP = os.path.dirname(os.path.dirname(os.path.abspath(__file__)))
 
 
-def built_program(words):
+def built_program(words, path="crates/zcpd/out/zcpd", builder="./zcpd"):
     """The program that the words name, else the one that was built here."""
-    program = words[1] if len(words) > 1 else os.path.join(TOP, "crates/zcpd/out/zcpd")
+    program = words[1] if len(words) > 1 else os.path.join(TOP, path)
     if not os.access(program, os.X_OK):
-        sys.exit("%s is not built: ./zcpd builds it" % program)
+        sys.exit("%s is not built: %s builds it" % (program, builder))
     return program
 
 

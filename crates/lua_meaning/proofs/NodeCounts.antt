@@ -20,7 +20,7 @@ use Rattle.lua_meaning.specs.Runs.{Run, go, halt, after, tick, fails, if_few, at
 use Rattle.lua_meaning.specs.Locals.{locals_of, slot_of, cells_in, declare, declare_all}
 use Rattle.lua_meaning.specs.Jobs.{Again, Job, Apply, Count, From}
 use Rattle.lua_meaning.specs.declared.variable.Target.{Target}
-use Rattle.lua_meaning.specs.Nodes.{slot_target, eval, statements, each_first, expressions, targets_of, target_of, choose, maybe_eval, step_of, each_field, all_fields, landed, by_truth, jump_to, call, store_one, store_all, makes_turn, count, start_count, put_items, only_first, logic}
+use Rattle.lua_meaning.specs.Nodes.{slot_target, eval, statements, each_first, expressions, targets_of, target_of, choose, maybe_eval, step_of, each_field, all_fields, landed, by_truth, jump_to, call, store_one, store_all, makes_turn, count, start_count, put_items, only_first, logic, closure_of}
 use Rattle.lua_meaning.proofs.Counts.{Plan, Ready, Fed, Runs, less, less_fed, after_fed, tick_to, tick_fed, fails_fed, cut_ready, closed_fed, loop_ends_fed}
 
 module _ {H : Type 0} where
@@ -93,6 +93,10 @@ module _ {H : Type 0} where
       start_count_fed u e v block (Some a) (Some b) (Some c) lines = count_fed u e v block a b c
       start_count_fed u e v block _ _ _ lines = fails_fed l u lines _
 
+      closure_fed : (u i : ℕ) (cells : Option (List ℕ)) → Runs l u (closure_of i cells)
+      closure_fed u i None = λ s r h. h
+      closure_fed u i (Some cells) = helped.closures u (record { function = i; cells = cells })
+
       items_fed : (u : ℕ) (lines : List ℕ) (t i : ℕ) (xs : List Value) (k : ℕ → Run H) → ((j : ℕ) → Runs l u (k j)) → Runs l u (put_items lines t i xs k)
       items_fed u lines t i [] k f = f i
       items_fed u lines t i (x ∷ xs) k f = helped.puts u lines t (value.Int (pos i)) x _ (items_fed u lines t (i + 1) xs k f)
@@ -118,7 +122,7 @@ module _ {H : Type 0} where
         eval_fed u e (syntax.Label i l' label) = tick_fed l u _ (λ s r h. h)
         eval_fed u e (syntax.Const i l' v) = tick_fed l u _ (λ s r h. h)
         eval_fed u e (syntax.Vararg i l') = tick_fed l u _ (λ s r h. h)
-        eval_fed u e (syntax.Function i l' params vararg block) = tick_fed l u _ (λ s r h. helped.closures (u + 1) (record { function = i; cells = cells_in (locals_of s) (code.captured i) }) s r h)
+        eval_fed u e (syntax.Function i l' params vararg block) = tick_fed l u _ (λ s r h. closure_fed (u + 1) i (cells_in (locals_of s) (code.captured i)) s r h)
         eval_fed u e (syntax.Name i l' name) = tick_fed l u _ (λ s r h. h)
         eval_fed u e (syntax.Index i l' object key) = tick_fed l u _ (λ s r h. after_fed l (u + 1) _ _ (eval_fed (u + 1) (more u e) object s r h) (λ o s r h. after_fed l (u + 1) _ _ (eval_fed (u + 1) (more u e) key s r h) (λ k s r h. helped.looks (u + 1) (more u e) (first o) (first k) (at_line l' s) s r h)))
         eval_fed u e (syntax.Call i l' function args) = tick_fed l u _ (λ s r h. after_fed l (u + 1) _ _ (eval_fed (u + 1) (more u e) function s r h) (λ f. expressions_fed (u + 1) (more u e) args _ (λ vs s r h. call_fed u e (first f) vs (at_line l' s) s r h)))

@@ -27,13 +27,18 @@ abbrev pub with_held : Locals → ℕ → Value → Locals
 with_held ls v x = held_at (position (λ l. l.0 == v) ls) ls v x
 
 -- the shared variable of a local that some function captures
-abbrev pub cell_in : Option Slot → ℕ
-cell_in (Some (slot.Cell i)) = i
-cell_in _ = 0
+abbrev pub cell_in : Option Slot → Option ℕ
+cell_in (Some (slot.Cell i)) = Some i
+cell_in _ = None
 
--- what a function captures: the shared variables of these locals
-abbrev pub cells_in : Locals → List ℕ → List ℕ
-cells_in ls vs = map (λ v. cell_in (slot_of ls v)) vs
+abbrev pub with_front : Option ℕ → Option (List ℕ) → Option (List ℕ)
+with_front (Some i) (Some is) = Some (i ∷ is)
+with_front _ _ = None
+
+-- what a function captures: the shared variables of these locals; none where one of them isn't shared, as in no text
+abbrev pub cells_in : Locals → List ℕ → Option (List ℕ)
+cells_in ls [] = Some []
+cells_in ls (v ∷ vs) = with_front (cell_in (slot_of ls v)) (cells_in ls vs)
 
 -- the locals that a body has from outside
 abbrev pub captured_locals : List ℕ → List ℕ → Locals

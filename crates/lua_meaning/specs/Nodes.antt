@@ -38,6 +38,11 @@ module _ {H : Type 0} where
   abbrev pub hold : ℕ → Value → Run H
   hold v x s = go [] (with_locals (with_held (locals_of s) v x) s)
 
+  -- a function with what it captures (3.4.10)
+  abbrev pub closure_of : ℕ → Option (List ℕ) → Run H
+  closure_of n None = go (value.Nil ∷ [])
+  closure_of n (Some cells) = new_closure (record { function = n; cells = cells })
+
   -- values at n and the numbers behind it
   abbrev pub put_items : List ℕ → ℕ → ℕ → List Value → (ℕ → Run H) → Run H
   put_items lines t n [] k = k n
@@ -132,7 +137,7 @@ module _ {H : Type 0} (code : Code) (again : Again H) where
     eval (Label n l label) = tick (go [])
     eval (Const n l value) = tick (go (of_literal value ∷ []))
     eval (Vararg n l) = tick (λ s. go (call_of s).varargs s)
-    eval (Function n l params vararg block) = tick (λ s. new_closure (record { function = n; cells = cells_in (locals_of s) (code.captured n) }) s)
+    eval (Function n l params vararg block) = tick (λ s. closure_of n (cells_in (locals_of s) (code.captured n)) s)
     eval (Name n l name) = tick (λ s. go (value_named (code.variable n) name s ∷ []) s)
     eval (Index n l object key) =
         tick (λ s r. after (eval object s r) (λ o s r. after (eval key s r) (λ k s. look again (first o) (first k) (at_line l s) s)))

@@ -1,5 +1,5 @@
 -- Nodes that make something of the heap, and nodes without an instruction left.
-use Rattle.std.proofs.Common.{◌≡◌, ◌∙◌, ℕ, ◌+◌, ◌<◌, ◌≤◌, List, [], ◌∷◌, Bool, true, false, refl, arith, ap}
+use Rattle.std.proofs.Common.{◌≡◌, ◌∙◌, ℕ, ◌+◌, ◌≤◌, List, [], ◌∷◌, Bool, true, false, Some, None, refl, arith}
 use Rattle.zc_budget.specs.Used.{is_spent}
 use Rattle.zc_budget.specs.declared.budget.Stop.{Stop}
 use Rattle.zc_budget.specs.declared.budget.Stop.TheVariants as stop
@@ -22,22 +22,27 @@ use Rattle.lua_coroutines.specs.declared.frame.AssignFrame.TheVariants as assign
 use Rattle.lua_steps.specs.declared.mode.Mode.{Mode}
 use Rattle.lua_steps.specs.declared.mode.Mode.TheVariants as mode
 use Rattle.lua_steps.specs.Parts.{part, line_number, function_at, fields_at}
-use Rattle.lua_steps.specs.Frames.{jobs_at, means, function_stored}
-use Rattle.lua_steps.specs.Works.{spare, need, used, limit, Goes, Works}
+use Rattle.lua_steps.specs.Frames.{jobs_at, function_stored}
+use Rattle.lua_steps.specs.Works.{used, Goes, Works}
 use Rattle.lua_steps.proofs.Lists.{fields_are}
-use Rattle.lua_steps.proofs.Steps.{after_tick, same, push}
+use Rattle.lua_steps.proofs.Steps.{after_tick, same, push, tick_same}
 
 module _ {H : Type 0} (host : HostOf H) (code : Code) (nodes : List LinedNode) (ended : ℕ) (whole : ℕ → Resumptions H → Result H) where
   abbrev At : Store H → List Frame → Mode → Type 0
   At s fs b = Works host code nodes ended s fs b whole
 
-  pub function_made : (s s' : Store H) (fs : List Frame) (i : ℕ) (params : List (List ℕ)) (vararg : Bool) (block : Tree) (v : Value) → part nodes i ≡ syntax.Function i (line_number nodes i) params vararg block → is_spent (used_of s) ≡ false → Goes s s' → used s + 1 ≤ used s' → ((r : Resumptions H) → new_closure (record { function = i; cells = cells_in (locals_of s) (code.captured i) }) (after_tick s) r ≡ Go (v ∷ []) s' r) → At s fs (mode.Begin i) → At s' fs (mode.Give (v ∷ []))
+  pub function_made : (s s' : Store H) (fs : List Frame) (i : ℕ) (params : List (List ℕ)) (vararg : Bool) (block : Tree) (cells : List ℕ) (v : Value) → cells_in (locals_of s) (code.captured i) ≡ Some cells → part nodes i ≡ syntax.Function i (line_number nodes i) params vararg block → is_spent (used_of s) ≡ false → Goes s s' → used s + 1 ≤ used s' → ((r : Resumptions H) → new_closure (record { function = i; cells = cells }) (after_tick s) r ≡ Go (v ∷ []) s' r) → At s fs (mode.Begin i) → At s' fs (mode.Give (v ∷ []))
   unfolding eval
-  function_made (store x y c rs) s' fs i params vararg block v e t go' ticks made = same host code nodes ended (store x y c rs) s' fs (mode.Begin i) (mode.Give (v ∷ [])) whole go' (omega (arith, ticks)) (omega (arith, ticks)) (λ m n r. rw e (rw t (made r)))
+  function_made (store x y c rs) s' fs i params vararg block cells v got e t go' ticks made = same host code nodes ended (store x y c rs) s' fs (mode.Begin i) (mode.Give (v ∷ [])) whole go' (omega (arith, ticks)) (omega (arith, ticks)) (λ m n r. rw e (rw t (rw got (made r))))
 
-  pub function_not_made : (s s' : Store H) (fs : List Frame) (i : ℕ) (params : List (List ℕ)) (vararg : Bool) (block : Tree) (st : Stop) → part nodes i ≡ syntax.Function i (line_number nodes i) params vararg block → is_spent (used_of s) ≡ false → Goes s s' → used s + 1 ≤ used s' → ((r : Resumptions H) → new_closure (record { function = i; cells = cells_in (locals_of s) (code.captured i) }) (after_tick s) r ≡ Halt (Stops st) s' r) → At s fs (mode.Begin i) → At s' fs (mode.Stopped st)
+  pub function_not_made : (s s' : Store H) (fs : List Frame) (i : ℕ) (params : List (List ℕ)) (vararg : Bool) (block : Tree) (cells : List ℕ) (st : Stop) → cells_in (locals_of s) (code.captured i) ≡ Some cells → part nodes i ≡ syntax.Function i (line_number nodes i) params vararg block → is_spent (used_of s) ≡ false → Goes s s' → used s + 1 ≤ used s' → ((r : Resumptions H) → new_closure (record { function = i; cells = cells }) (after_tick s) r ≡ Halt (Stops st) s' r) → At s fs (mode.Begin i) → At s' fs (mode.Stopped st)
   unfolding eval
-  function_not_made (store x y c rs) s' fs i params vararg block st e t go' ticks made = same host code nodes ended (store x y c rs) s' fs (mode.Begin i) (mode.Stopped st) whole go' (omega (arith, ticks)) (omega (arith, ticks)) (λ m n r. rw e (rw t (made r)))
+  function_not_made (store x y c rs) s' fs i params vararg block cells st got e t go' ticks made = same host code nodes ended (store x y c rs) s' fs (mode.Begin i) (mode.Stopped st) whole go' (omega (arith, ticks)) (omega (arith, ticks)) (λ m n r. rw e (rw t (rw got (made r))))
+
+  -- no text has a function that captures what isn't shared: it is nil
+  pub function_without_cells : (s : Store H) (fs : List Frame) (i : ℕ) (params : List (List ℕ)) (vararg : Bool) (block : Tree) → cells_in (locals_of s) (code.captured i) ≡ None → part nodes i ≡ syntax.Function i (line_number nodes i) params vararg block → is_spent (used_of s) ≡ false → At s fs (mode.Begin i) → At (after_tick s) fs (mode.Give (value.Nil ∷ []))
+  unfolding eval
+  function_without_cells (store x y c rs) fs i params vararg block got e t = tick_same host code nodes ended (store x y c rs) fs i (mode.Give (value.Nil ∷ [])) whole (omega arith) (omega arith) (λ m n r. rw e (rw t (rw got refl)))
 
   pub table_made : (s s' : Store H) (fs : List Frame) (i made_table : ℕ) → part nodes i ≡ syntax.Table i (line_number nodes i) (fields_of (part nodes) (fields_at nodes i)) → is_spent (used_of s) ≡ false → Goes s s' → used s + 1 ≤ used s' → ((k : ℕ → Run H) (r : Resumptions H) → new_table k (after_tick s) r ≡ k made_table s' r) → At s fs (mode.Begin i) → At s' fs (mode.Fields i 0 made_table 1)
   unfolding eval

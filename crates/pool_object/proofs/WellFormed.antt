@@ -4,7 +4,6 @@ use Rattle.std.specs.List.{list_all}
 use Rattle.std.proofs.lemmas.Bool.{and_parts}
 use Rattle.zp_names.specs.declared.command.Command.{Command}
 use Rattle.zp_names.specs.declared.command.Command.TheVariants as command
-use Rattle.zp_names.specs.declared.command.Query.TheVariants as query
 use Rattle.zp_tree.specs.Tree.{Tree}
 use Rattle.zp_tree.specs.Rows.{passed}
 use Rattle.zp_tree.specs.WellFormed.{IsWellFormed}
@@ -12,8 +11,10 @@ use Rattle.zp_tree.specs.Commands.{check_of, change_of}
 use Rattle.zp_tree.proofs.Passing.{zero_passes}
 use Rattle.zp_tree.proofs.VerdictTexts.{details-utf8}
 use Rattle.zp_changes.proofs.CreateLaw.{create-well}
+use Rattle.zp_changes.proofs.CreateVolumeLaw.{create-volume-well}
 use Rattle.zp_changes.proofs.SnapshotLaw.{snapshot-well}
 use Rattle.zp_changes.proofs.CloneLaw.{clone-well}
+use Rattle.zp_changes.proofs.BookmarkLaw.{bookmark-well}
 use Rattle.zp_changes.proofs.MountLaw.{mount-well}
 use Rattle.zp_changes.proofs.UnmountLaw.{unmount-well}
 use Rattle.zp_changes.proofs.StampLaw.{stamp-well}
@@ -30,6 +31,7 @@ use Rattle.zp_calls.specs.declared.call.Call.{Call}
 use Rattle.zp_calls.specs.declared.call.Call.TheVariants as call
 use Rattle.zp_calls.specs.Names.{HasValidNames}
 use Rattle.zp_calls.specs.Replies.{IsPrintable}
+use Rattle.zcp_read.proofs.Printable.{answer-printable}
 use Rattle.pool_object.specs.Pool.{does}
 
 -- a valid name is a head's or has a valid short name
@@ -44,8 +46,10 @@ short-or-head name valid =
 -- the change of a command whose check passes
 change-well : (now : ℕ) (t : Tree) (c : Command) (group : ℕ) → IsWellFormed t → HasValidNames (call.Command c) → check_of t c ≡ passed → IsWellFormed (change_of t c group now)
 change-well now t (command.Create name) group w valid passes = create-well t name group w valid.0 passes
+change-well now t (command.CreateVolume name size) group w valid passes = create-volume-well t name size group w valid.0 passes
 change-well now t (command.Snapshot name) group w valid passes = snapshot-well t name group w (short-or-head name valid.0) passes
 change-well now t (command.Clone source name) group w valid passes = clone-well t source name group w valid.1.0 passes
+change-well now t (command.Bookmark source name) group w valid passes = bookmark-well t source name w (short-or-head name valid.1.0) passes
 change-well now t (command.Mount name) group w valid passes = mount-well t name w
 change-well now t (command.Unmount name) group w valid passes = unmount-well t name w
 change-well now t (command.Stamp name value) group w valid passes = stamp-well t name value w
@@ -70,4 +74,4 @@ does-well now t (call.Query q) group w valid = w
 -- the reply to a call
 pub does-printable : (now : ℕ) (t : Tree) (c : Call) (group : ℕ) → IsWellFormed t → IsPrintable (does now t c group).0
 does-printable now t (call.Command c) group w = details-utf8 t c w
-does-printable now t (call.Query (query.Exists name)) group w = tt
+does-printable now t (call.Query q) group w = answer-printable t q w

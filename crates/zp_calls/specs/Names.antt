@@ -11,8 +11,10 @@ use Rattle.zp_calls.specs.declared.call.Call.TheVariants as call
 
 abbrev pub names_of_command : Command → List (List ℕ)
 names_of_command (command.Create name) = name ∷ []
+names_of_command (command.CreateVolume name size) = name ∷ []
 names_of_command (command.Snapshot name) = name ∷ []
 names_of_command (command.Clone source name) = source ∷ name ∷ []
+names_of_command (command.Bookmark source name) = source ∷ name ∷ []
 names_of_command (command.Mount name) = name ∷ []
 names_of_command (command.Unmount name) = name ∷ []
 names_of_command (command.Stamp name value) = name ∷ []
@@ -28,6 +30,8 @@ names_of_command (command.Release name tag) = name ∷ []
 
 abbrev pub names_of_query : Query → List (List ℕ)
 names_of_query (query.Exists name) = name ∷ []
+names_of_query (query.List kind name after limit) = name ∷ []
+names_of_query (query.Get name property) = name ∷ []
 
 abbrev pub names_of : Call → List (List ℕ)
 names_of (call.Command c) = names_of_command c

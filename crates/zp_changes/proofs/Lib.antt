@@ -6,7 +6,9 @@ pub mod StampLaw
 pub mod SnapshotLaw
 pub mod RenameSnapshotLaw
 pub mod CloneSettings
+pub mod CreateVolumeLaw
 pub mod CloneLaw
+pub mod BookmarkLaw
 pub mod RollbackLaw
 pub mod Fewer
 pub mod Losing

@@ -14,6 +14,7 @@ use Rattle.zp_tree.specs.declared.item.Item.TheVariants as item
 use Rattle.zp_tree.specs.declared.item.Head.{Head}
 use Rattle.zp_tree.specs.declared.item.Snapshot.{Snapshot}
 use Rattle.zp_tree.specs.declared.item.Bookmark.{Bookmark}
+use Rattle.zp_tree.specs.declared.item.PointInTime.{PointInTime}
 use Rattle.zp_tree.specs.declared.promotion.Promotion.{Promotion}
 use Rattle.zp_tree.specs.Tree.{Tree, at, id_of, as_snapshot, as_bookmark, Rises, is_called, named, head_named, head_at, snapshot_at, snapshot_named, bookmark_named, added, replaced, removed, changed}
 use Rattle.zp_tree.specs.WellFormed.{IsWellFormed}
@@ -27,6 +28,7 @@ use Rattle.zp_tree.specs.ReleaseHold.{without_hold}
 use Rattle.zp_tree.specs.Rename.{renamed, rename_change}
 use Rattle.zp_tree.specs.TakeSnapshot.{new_snapshot}
 use Rattle.zp_tree.specs.MakeClone.{with_clone, new_clone}
+use Rattle.zp_tree.specs.MakeBookmark.{point_named, with_bookmark, new_bookmark}
 use Rattle.zp_tree.specs.Rollback.{rolled_back, rollback_source}
 use Rattle.zp_tree.specs.Promote.{promotion_of, promoted}
 use Rattle.zp_tree.specs.PromoteKeeps.{promoted-keeps}
@@ -34,6 +36,7 @@ use Rattle.zp_tree.proofs.Looks.{at-id, found-at, find-passes}
 use Rattle.zp_tree.proofs.Edits.{edit-other, look-put, look-without}
 use Rattle.zp_tree.proofs.Rising.{rises-put}
 use Rattle.zp_tree.proofs.Found.{is-head, is-snapshot, head-found, snapshot-found}
+use Rattle.zp_tree.proofs.Marking.{is-bookmark}
 use Rattle.zp_changes.specs.Renaming.{renamed-keeps}
 use Rattle.zp_changes.proofs.Fewer.{passing}
 use Rattle.zp_changes.proofs.WithoutHead.{stays, look-left, fewer-marks, fewer-head}
@@ -66,6 +69,14 @@ cloned-stays t name txg (Some s) i r e = go (head_at t s.owner)
     go : (o : Option Head) → at (option_map_or (λ d. added t (new_clone t.next name txg s d)) o t).records i ≡ Some r
     go None = e
     go (Some d) = at-front t.records (new_clone t.next name txg s d) i r e
+
+marked-stays : (t : Tree) (source name : List ℕ) (o : Option Head) (i : ℕ) (r : Item) → at t.records i ≡ Some r → at (option_map_or (with_bookmark t source name) o t).records i ≡ Some r
+marked-stays t source name None i r e = e
+marked-stays t source name (Some d) i r e = go (point_named t source)
+  where
+    go : (o : Option PointInTime) → at (option_map_or (λ p. added t (new_bookmark t.next d.id (short_of name) p)) o t).records i ≡ Some r
+    go None = e
+    go (Some p) = at-front t.records (new_bookmark t.next d.id (short_of name) p) i r e
 
 -- ---- a record in the place of another
 
@@ -101,12 +112,6 @@ rolled-stays t name (Some d) i r w f there other = go (rollback_source t d)
     go (Some s) = head-stays t name (λ (e : Head). record e { stamp = s.stamp }) (Some d) i r w (λ e. refl) f there other
 
 -- ---- a record less
-
-is-bookmark : (o : Option Item) (m : Bookmark) → option_and_then as_bookmark o ≡ Some m → o ≡ Some (item.Mark m)
-is-bookmark None m e = cc
-is-bookmark (Some (item.Head d)) m e = cc
-is-bookmark (Some (item.Snap s)) m e = cc
-is-bookmark (Some (item.Mark n)) m e = let is : n ≡ m = cc in ap (λ (v : Bookmark). Some (item.Mark v)) is
 
 -- the record of a name is another than one without it
 other-id : (t : Tree) (name : List ℕ) (q r : Item) (i : ℕ) → IsWellFormed t → named t.records name ≡ Some q → at t.records i ≡ Some r → is_called t.records name r ≡ false → i ≡ id_of q → ⊥
@@ -240,8 +245,10 @@ inherited-stays t name property (Some q) i r w f there other = else-put t q (set
 
 pub others-stay : (t : Tree) (c : Command) (txg now i : ℕ) (r : Item) → IsWellFormed t → at t.records i ≡ Some r → names_record t c r ≡ false → at (change_of t c txg now).records i ≡ Some r
 others-stay t (command.Create name) txg now i r w there other = at-front t.records _ i r there
+others-stay t (command.CreateVolume name size) txg now i r w there other = at-front t.records _ i r there
 others-stay t (command.Snapshot name) txg now i r w there other = taken-stays t (short_of name) txg (head_named t (head_of name)) i r there
 others-stay t (command.Clone source name) txg now i r w there other = cloned-stays t name txg (snapshot_named t source) i r there
+others-stay t (command.Bookmark source name) txg now i r w there other = marked-stays t source name (head_named t (head_of name)) i r there
 others-stay t (command.Mount name) txg now i r w there other = head-stays t name (λ (d : Head). record d { mounted = true }) (head_named t name) i r w (λ d. refl) refl there other
 others-stay t (command.Unmount name) txg now i r w there other = head-stays t name (λ (d : Head). record d { mounted = false }) (head_named t name) i r w (λ d. refl) refl there other
 others-stay t (command.Stamp name value) txg now i r w there other = head-stays t name (λ (d : Head). record d { stamp = value }) (head_named t name) i r w (λ d. refl) refl there other

@@ -1,9 +1,11 @@
 //! The changes of the commands: what a command that passed its check makes of the tree.
 #![tactic(auto)]
 
+mod bookmark;
 mod change;
 mod clone;
 mod create;
+mod create_volume;
 mod deferred;
 mod destroy;
 mod hold;
@@ -48,8 +50,12 @@ pub fn apply<T: Datasets>(
 {
     match command {
         Command::Create { name } => create::apply(alloc, tree, name, txg),
+        Command::CreateVolume { name, volsize } => {
+            create_volume::apply(alloc, tree, name, *volsize, txg)
+        }
         Command::Snapshot { name } => snapshot::apply(alloc, tree, name, txg),
         Command::Clone { source, name } => clone::apply(alloc, tree, source, name, txg),
+        Command::Bookmark { source, name } => bookmark::apply(alloc, tree, source, name),
         Command::Mount { name } => mount::apply(alloc, tree, name),
         Command::Unmount { name } => unmount::apply(alloc, tree, name),
         Command::Stamp { name, value } => stamp::apply(alloc, tree, name, *value),

@@ -3,6 +3,10 @@
 #![tactic(auto)]
 
 #[cfg(test)]
+mod bookmark_tests;
+#[cfg(test)]
 mod promote_tests;
 #[cfg(test)]
 mod tests;
+#[cfg(test)]
+mod volume_tests;

@@ -1,8 +1,10 @@
 //! The checks of the commands: may a command be done on this tree, and if not, why.
 #![tactic(auto)]
 
+mod bookmark;
 mod clone;
 mod create;
+mod create_volume;
 mod destroy;
 mod form;
 mod hold;
@@ -35,8 +37,12 @@ pub fn check<T: Datasets>(alloc: Global, tree: &T, command: &Command) -> Result<
 {
     match command {
         Command::Create { name } => create::check(alloc, tree, name),
+        Command::CreateVolume { name, volsize } => {
+            create_volume::check(alloc, tree, name, *volsize)
+        }
         Command::Snapshot { name } => snapshot::check(alloc, tree, name),
         Command::Clone { source, name } => clone::check(alloc, tree, source, name),
+        Command::Bookmark { source, name } => bookmark::check(alloc, tree, source, name),
         Command::Mount { name } => Ok(mount::check(alloc, tree, name)),
         Command::Unmount { name } => Ok(unmount::check(alloc, tree, name)),
         Command::Stamp { name, .. } => Ok(stamp::check(alloc, tree, name)),

@@ -2,7 +2,7 @@
 
 ghost use Rattle.std.specs.Prelude.{◌≡◌, IfOk};
 
-use crate::{Bytes, Name};
+use crate::{Bytes, ListKind, Name};
 use std::alloc::Global;
 use zc_io::NoMemory;
 
@@ -13,12 +13,22 @@ pub enum Command {
     Create {
         name: Name,
     },
+    /// Make a volume of this name and this size in bytes: zfs-create(8), `-V`.
+    CreateVolume {
+        name: Name,
+        volsize: u64,
+    },
     /// Take a snapshot of this name: zfs-snapshot(8).
     Snapshot {
         name: Name,
     },
     /// Make a clone of this name from a snapshot: zfs-clone(8).
     Clone {
+        source: Name,
+        name: Name,
+    },
+    /// Make a bookmark of this name from a snapshot or from a bookmark: zfs-bookmark(8).
+    Bookmark {
         source: Name,
         name: Name,
     },
@@ -87,7 +97,22 @@ pub enum Command {
 #[derive(Debug, Drop)]
 pub enum Query {
     /// Whether there is a dataset of this name, as `zfs.exists` of zfs-program(8) tells.
-    Exists { name: Name },
+    Exists {
+        name: Name,
+    },
+    /// The names that stand in a relation to this dataset, as `zfs.list` of zfs-program(8) gives them: those above a text
+    /// by bytes, and of these so many.
+    List {
+        kind: ListKind,
+        name: Name,
+        after: Bytes,
+        limit: u64,
+    },
+    /// The value of a property of this dataset, with where it comes from: `zfs.get_prop` of zfs-program(8).
+    Get {
+        name: Name,
+        prop: Bytes,
+    },
 }
 
 impl Command {
@@ -99,10 +124,18 @@ impl Command {
             Command::Create { name } => Ok(Command::Create {
                 name: name.copy(alloc)?,
             }),
+            Command::CreateVolume { name, volsize } => Ok(Command::CreateVolume {
+                name: name.copy(alloc)?,
+                volsize: *volsize,
+            }),
             Command::Snapshot { name } => Ok(Command::Snapshot {
                 name: name.copy(alloc)?,
             }),
             Command::Clone { source, name } => Ok(Command::Clone {
+                source: source.copy(alloc)?,
+                name: name.copy(alloc)?,
+            }),
+            Command::Bookmark { source, name } => Ok(Command::Bookmark {
                 source: source.copy(alloc)?,
                 name: name.copy(alloc)?,
             }),
@@ -164,6 +197,21 @@ impl Query {
         match self {
             Query::Exists { name } => Ok(Query::Exists {
                 name: name.copy(alloc)?,
+            }),
+            Query::List {
+                kind,
+                name,
+                after,
+                limit,
+            } => Ok(Query::List {
+                kind: *kind,
+                name: name.copy(alloc)?,
+                after: after.copy(alloc)?,
+                limit: *limit,
+            }),
+            Query::Get { name, prop } => Ok(Query::Get {
+                name: name.copy(alloc)?,
+                prop: prop.copy(alloc)?,
             }),
         }
     }

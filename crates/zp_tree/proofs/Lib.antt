@@ -11,11 +11,15 @@ pub mod Latest
 pub mod Coming
 pub mod Sums
 pub mod Found
+pub mod Marking
 pub mod VerdictTexts
 pub mod Depending
 pub mod DestroyExamples
 mod PromoteExamples
+mod RenameExamples
+mod SettingExamples
 pub mod Passing
 pub mod Nearest
 mod InheritedExamples
 pub mod RecordNames
+pub mod ByteOrder

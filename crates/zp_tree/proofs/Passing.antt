@@ -10,8 +10,10 @@ use Rattle.zp_tree.specs.SetProperty.{set_rows}
 use Rattle.zp_tree.specs.InheritProperty.{inherit_rows}
 use Rattle.zp_tree.specs.Commands.{check_of}
 use Rattle.zp_tree.specs.Create.{create_rows}
+use Rattle.zp_tree.specs.CreateVolume.{create_volume_rows}
 use Rattle.zp_tree.specs.TakeSnapshot.{snapshot_rows}
 use Rattle.zp_tree.specs.MakeClone.{clone_rows}
+use Rattle.zp_tree.specs.MakeBookmark.{bookmark_rows}
 use Rattle.zp_tree.specs.Mount.{mount_rows}
 use Rattle.zp_tree.specs.Unmount.{unmount_rows}
 use Rattle.zp_tree.specs.WriteStamp.{stamp_rows}
@@ -47,8 +49,10 @@ destroy-refuses form.Bookmark t name defer = refl
 -- a check that answers 0 has passed
 pub zero_passes : (t : Tree) (c : Command) → ((check_of t c).errno == 0) ≡ true → check_of t c ≡ passed
 zero_passes t (command.Create name) zero = rows-pass (create_rows t name) refl zero
+zero_passes t (command.CreateVolume name size) zero = rows-pass (create_volume_rows t name size) refl zero
 zero_passes t (command.Snapshot name) zero = rows-pass (snapshot_rows t name) refl zero
 zero_passes t (command.Clone source name) zero = rows-pass (clone_rows t source name) refl zero
+zero_passes t (command.Bookmark source name) zero = rows-pass (bookmark_rows t source name) refl zero
 zero_passes t (command.Mount name) zero = rows-pass (mount_rows t name) refl zero
 zero_passes t (command.Unmount name) zero = rows-pass (unmount_rows t name) refl zero
 zero_passes t (command.Stamp name value) zero = rows-pass (stamp_rows t name) refl zero

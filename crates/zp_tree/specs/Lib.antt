@@ -4,9 +4,11 @@ pub mod WellFormed
 pub mod Rows
 pub mod Kept
 pub mod Create
+pub mod CreateVolume
 pub mod NewPool
 pub mod TakeSnapshot
 pub mod MakeClone
+pub mod MakeBookmark
 pub mod Mount
 pub mod Unmount
 pub mod WriteStamp

@@ -99,6 +99,15 @@ pub struct Bookmark {
     pub createtxg: u64,
 }
 
+/// The point in time at which a snapshot was taken, which a bookmark marks: zfs-bookmark(8).
+#[derive(Clone, Copy, Debug, PartialEq, Eq, Drop)]
+pub struct PointInTime {
+    /// The id of the snapshot.
+    pub source: u64,
+    /// The transaction group in which the snapshot was born.
+    pub createtxg: u64,
+}
+
 /// A record of the tree.
 #[derive(Debug, Drop)]
 pub enum Item {
@@ -112,6 +121,7 @@ pub enum Item {
 
 impl Item {
     ghost use Rattle.zp_tree.specs.Settable.{kind_of_item, settings_of_item, with_settings};
+    ghost use Rattle.zp_tree.specs.MakeBookmark.{point_of};
     ghost use Rattle.zp_tree.specs.Tree.{id_of};
 
     /// The id of the record.
@@ -133,6 +143,23 @@ impl Item {
             Item::Head(head) => Some(head.kind.kind()),
             Item::Snap(_) => Some(Kind3::Snapshot),
             Item::Mark(_) => None,
+        }
+    }
+
+    /// The point in time for which a snapshot or a bookmark stands; none of a head.
+    pub fn point_in_time(&self) -> Option<PointInTime>
+        ensures { result ≡ point_of self.now }
+    {
+        match self {
+            Item::Head(_) => None,
+            Item::Snap(snapshot) => Some(PointInTime {
+                source: snapshot.id,
+                createtxg: snapshot.createtxg,
+            }),
+            Item::Mark(bookmark) => Some(PointInTime {
+                source: bookmark.source,
+                createtxg: bookmark.createtxg,
+            }),
         }
     }
 

@@ -3,10 +3,11 @@
 ghost use Rattle.std.specs.Prelude.{◌≡◌, Some, IfSome, option_map};
 ghost use Rattle.zp_tree.specs.Inherited.{set_on, told_by, is_on, is_readonly};
 ghost use Rattle.zp_tree.specs.Tree.{at, id_of, named, exists, is_full};
+ghost use Rattle.zp_tree.specs.MakeBookmark.{point_named};
 ghost use Rattle.zp_tree.specs.Rollback.{rollback_source};
 ghost use Rattle.zp_tree.specs.WellFormed.{IsWellFormed};
 
-use crate::{Datasets, Effective, Head, Item, MOST_RECORDS, Snapshot};
+use crate::{Datasets, Effective, Head, Item, MOST_RECORDS, PointInTime, Snapshot};
 use zp_names::Name;
 use zp_props::PropValue;
 
@@ -26,6 +27,17 @@ pub fn exists<T: Datasets>(tree: &T, name: &Name) -> bool
     ensures { result ≡ exists (T.tree tree.now) name.now }
 {
     tree.find(name).is_some()
+}
+
+/// The point in time for which the snapshot or the bookmark of this name stands; none where there is neither.
+pub fn point_named<T: Datasets>(tree: &T, name: &Name) -> Option<PointInTime>
+    requires { IsWellFormed (T.tree tree.now) }
+    ensures { result ≡ point_named (T.tree tree.now) name.now }
+{
+    match named(tree, name) {
+        Some(item) => item.point_in_time(),
+        None => None,
+    }
 }
 
 /// What a head is taken back to: its latest snapshot, else its origin.
