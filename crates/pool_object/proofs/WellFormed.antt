@@ -11,6 +11,7 @@ use Rattle.zp_tree.specs.Commands.{check_of, change_of}
 use Rattle.zp_tree.proofs.Passing.{zero_passes}
 use Rattle.zp_tree.proofs.VerdictTexts.{details-utf8}
 use Rattle.zp_changes.proofs.CreateLaw.{create-well}
+use Rattle.zp_changes.proofs.CreateVolumeLaw.{create-volume-well}
 use Rattle.zp_changes.proofs.SnapshotLaw.{snapshot-well}
 use Rattle.zp_changes.proofs.CloneLaw.{clone-well}
 use Rattle.zp_changes.proofs.MountLaw.{mount-well}
@@ -44,6 +45,7 @@ short-or-head name valid =
 -- the change of a command whose check passes
 change-well : (now : ℕ) (t : Tree) (c : Command) (group : ℕ) → IsWellFormed t → HasValidNames (call.Command c) → check_of t c ≡ passed → IsWellFormed (change_of t c group now)
 change-well now t (command.Create name) group w valid passes = create-well t name group w valid.0 passes
+change-well now t (command.CreateVolume name size) group w valid passes = create-volume-well t name size group w valid.0 passes
 change-well now t (command.Snapshot name) group w valid passes = snapshot-well t name group w (short-or-head name valid.0) passes
 change-well now t (command.Clone source name) group w valid passes = clone-well t source name group w valid.1.0 passes
 change-well now t (command.Mount name) group w valid passes = mount-well t name w

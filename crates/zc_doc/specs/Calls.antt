@@ -6,7 +6,7 @@ use Rattle.serde_json.specs.Find.{get}
 use Rattle.zp_names.specs.Names.{is_valid_name}
 use Rattle.zp_names.specs.NameParts.{is_pool, pool_of}
 use Rattle.zp_names.specs.declared.command.Command.{Command}
-use Rattle.zp_names.specs.declared.command.Command.TheVariants.{Create, Snapshot, Clone, Mount, Unmount, Rollback, Stamp, RenameSnapshot, Destroy, Promote, Rename, Set, Inherit, Hold, Release}
+use Rattle.zp_names.specs.declared.command.Command.TheVariants.{Create, CreateVolume, Snapshot, Clone, Mount, Unmount, Rollback, Stamp, RenameSnapshot, Destroy, Promote, Rename, Set, Inherit, Hold, Release}
 use Rattle.zp_names.specs.declared.command.Query.{Query}
 use Rattle.zp_names.specs.declared.command.Query.TheVariants as query
 use Rattle.zp_names.specs.declared.list_kind.ListKind.{ListKind}
@@ -129,6 +129,7 @@ Ops A = List (List ℕ × (Data → Result A DocError))
 abbrev pub commands : List ℕ → Ops Command
 commands pool =
     (codes "create", one (λ name. Create name) (a_name pool (codes "name")))
+    ∷ (codes "create_volume", two (λ name size. CreateVolume name size) (a_name pool (codes "name")) (a_number 1 (2 ^ 63 - 1) (codes "volsize")))
     ∷ (codes "snapshot", one (λ name. Snapshot name) (a_name pool (codes "name")))
     ∷ (codes "clone", two (λ source name. Clone source name) (a_name pool (codes "source")) (a_name pool (codes "name")))
     ∷ (codes "mount", one (λ name. Mount name) (a_name pool (codes "name")))

@@ -157,6 +157,7 @@ fn read_command(alloc: Global, pool: &Name, op: &str, value: &Value) -> Result<C
         "create" => Ok(Command::Create {
             name: only_name(alloc, pool, value)?,
         }),
+        "create_volume" => read_create_volume(alloc, pool, value),
         "snapshot" => Ok(Command::Snapshot {
             name: only_name(alloc, pool, value)?,
         }),
@@ -183,6 +184,21 @@ fn read_command(alloc: Global, pool: &Name, op: &str, value: &Value) -> Result<C
         "release" => read_release(alloc, pool, value),
         _ => Err(DocError::BadType(Path::whole(alloc).behind(alloc, "op")?)),
     }
+}
+
+#[tactic(auto, unfolding(crate::specs::Calls::command_of))]
+fn read_create_volume(alloc: Global, pool: &Name, value: &Value) -> Result<Command, DocError>
+    ensures gives { Gives result (command_of pool.now (codes "create_volume") (view value.now)) }
+    ensures names { IfOk result (λ c. HasValidNames (call.Command c)) }
+{
+    only_members(alloc, &["op", "name", "volsize"], value)?;
+    let size = NumberIn {
+        low: 1,
+        high: (1 << 63) - 1,
+    };
+    let name = member(alloc, &NameIn { pool }, "name", value)?;
+    let volsize = member(alloc, &size, "volsize", value)?;
+    Ok(Command::CreateVolume { name, volsize })
 }
 
 #[tactic(auto, unfolding(crate::specs::Calls::command_of))]

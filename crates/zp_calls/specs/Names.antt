@@ -11,6 +11,7 @@ use Rattle.zp_calls.specs.declared.call.Call.TheVariants as call
 
 abbrev pub names_of_command : Command → List (List ℕ)
 names_of_command (command.Create name) = name ∷ []
+names_of_command (command.CreateVolume name size) = name ∷ []
 names_of_command (command.Snapshot name) = name ∷ []
 names_of_command (command.Clone source name) = source ∷ name ∷ []
 names_of_command (command.Mount name) = name ∷ []

@@ -40,7 +40,7 @@ pub record Good (settings : List Setting) (volume : Bool) : Type 0 where
   pub sized : volume ≡ true → has_setting volsize settings ≡ true
   pub no_user : user_count settings ≡ 0
 
-one : (s : Setting) (volume : Bool) → IsUtf8 s.name → IsValue s.value → bytes_eq s.name volsize ≡ true → Good (s ∷ []) volume
+pub one : (s : Setting) (volume : Bool) → IsUtf8 s.name → IsValue s.value → bytes_eq s.name volsize ≡ true → Good (s ∷ []) volume
 one s volume name value e =
     let is : s.name ≡ volsize = (bytes_eq-Decides s.name volsize).0 e in record {
       settings_are = record { distinct = one-distinct s.name; names = All-cons (λ (s : Setting). IsUtf8 s.name) s [] name (All-nil (λ (s : Setting). IsUtf8 s.name)); values = All-cons (λ (s : Setting). IsValue s.value) s [] value (All-nil (λ (s : Setting). IsValue s.value)) };

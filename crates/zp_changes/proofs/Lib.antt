@@ -6,6 +6,7 @@ pub mod StampLaw
 pub mod SnapshotLaw
 pub mod RenameSnapshotLaw
 pub mod CloneSettings
+pub mod CreateVolumeLaw
 pub mod CloneLaw
 pub mod RollbackLaw
 pub mod Fewer

@@ -240,6 +240,7 @@ inherited-stays t name property (Some q) i r w f there other = else-put t q (set
 
 pub others-stay : (t : Tree) (c : Command) (txg now i : ℕ) (r : Item) → IsWellFormed t → at t.records i ≡ Some r → names_record t c r ≡ false → at (change_of t c txg now).records i ≡ Some r
 others-stay t (command.Create name) txg now i r w there other = at-front t.records _ i r there
+others-stay t (command.CreateVolume name size) txg now i r w there other = at-front t.records _ i r there
 others-stay t (command.Snapshot name) txg now i r w there other = taken-stays t (short_of name) txg (head_named t (head_of name)) i r there
 others-stay t (command.Clone source name) txg now i r w there other = cloned-stays t name txg (snapshot_named t source) i r there
 others-stay t (command.Mount name) txg now i r w there other = head-stays t name (λ (d : Head). record d { mounted = true }) (head_named t name) i r w (λ d. refl) refl there other

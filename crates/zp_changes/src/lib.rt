@@ -4,6 +4,7 @@
 mod change;
 mod clone;
 mod create;
+mod create_volume;
 mod deferred;
 mod destroy;
 mod hold;
@@ -48,6 +49,9 @@ pub fn apply<T: Datasets>(
 {
     match command {
         Command::Create { name } => create::apply(alloc, tree, name, txg),
+        Command::CreateVolume { name, volsize } => {
+            create_volume::apply(alloc, tree, name, *volsize, txg)
+        }
         Command::Snapshot { name } => snapshot::apply(alloc, tree, name, txg),
         Command::Clone { source, name } => clone::apply(alloc, tree, source, name, txg),
         Command::Mount { name } => mount::apply(alloc, tree, name),

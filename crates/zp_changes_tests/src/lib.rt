@@ -6,3 +6,5 @@
 mod promote_tests;
 #[cfg(test)]
 mod tests;
+#[cfg(test)]
+mod volume_tests;

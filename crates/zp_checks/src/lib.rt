@@ -3,6 +3,7 @@
 
 mod clone;
 mod create;
+mod create_volume;
 mod destroy;
 mod form;
 mod hold;
@@ -35,6 +36,9 @@ pub fn check<T: Datasets>(alloc: Global, tree: &T, command: &Command) -> Result<
 {
     match command {
         Command::Create { name } => create::check(alloc, tree, name),
+        Command::CreateVolume { name, volsize } => {
+            create_volume::check(alloc, tree, name, *volsize)
+        }
         Command::Snapshot { name } => snapshot::check(alloc, tree, name),
         Command::Clone { source, name } => clone::check(alloc, tree, source, name),
         Command::Mount { name } => Ok(mount::check(alloc, tree, name)),

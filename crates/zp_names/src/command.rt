@@ -13,6 +13,11 @@ pub enum Command {
     Create {
         name: Name,
     },
+    /// Make a volume of this name and this size in bytes: zfs-create(8), `-V`.
+    CreateVolume {
+        name: Name,
+        volsize: u64,
+    },
     /// Take a snapshot of this name: zfs-snapshot(8).
     Snapshot {
         name: Name,
@@ -113,6 +118,10 @@ impl Command {
         match self {
             Command::Create { name } => Ok(Command::Create {
                 name: name.copy(alloc)?,
+            }),
+            Command::CreateVolume { name, volsize } => Ok(Command::CreateVolume {
+                name: name.copy(alloc)?,
+                volsize: *volsize,
             }),
             Command::Snapshot { name } => Ok(Command::Snapshot {
                 name: name.copy(alloc)?,

@@ -10,6 +10,7 @@ use Rattle.zp_tree.specs.SetProperty.{set_rows}
 use Rattle.zp_tree.specs.InheritProperty.{inherit_rows}
 use Rattle.zp_tree.specs.Commands.{check_of}
 use Rattle.zp_tree.specs.Create.{create_rows}
+use Rattle.zp_tree.specs.CreateVolume.{create_volume_rows}
 use Rattle.zp_tree.specs.TakeSnapshot.{snapshot_rows}
 use Rattle.zp_tree.specs.MakeClone.{clone_rows}
 use Rattle.zp_tree.specs.Mount.{mount_rows}
@@ -47,6 +48,7 @@ destroy-refuses form.Bookmark t name defer = refl
 -- a check that answers 0 has passed
 pub zero_passes : (t : Tree) (c : Command) → ((check_of t c).errno == 0) ≡ true → check_of t c ≡ passed
 zero_passes t (command.Create name) zero = rows-pass (create_rows t name) refl zero
+zero_passes t (command.CreateVolume name size) zero = rows-pass (create_volume_rows t name size) refl zero
 zero_passes t (command.Snapshot name) zero = rows-pass (snapshot_rows t name) refl zero
 zero_passes t (command.Clone source name) zero = rows-pass (clone_rows t source name) refl zero
 zero_passes t (command.Mount name) zero = rows-pass (mount_rows t name) refl zero

@@ -20,6 +20,7 @@ use Rattle.zp_tree.specs.WellFormed.{IsRecord, IsWellFormed}
 use Rattle.zp_tree.specs.Rows.{first_row}
 use Rattle.zp_tree.specs.ShortNames.{short_name_if, in_byte_order, short_names}
 use Rattle.zp_tree.specs.Create.{create_rows}
+use Rattle.zp_tree.specs.CreateVolume.{create_volume_rows}
 use Rattle.zp_tree.specs.TakeSnapshot.{snapshot_rows}
 use Rattle.zp_tree.specs.MakeClone.{clone_rows}
 use Rattle.zp_tree.specs.Mount.{mount_rows}
@@ -94,6 +95,7 @@ way-texts t (Some m) w = short-texts t (is_in_the_way t m) w
 -- the details of a verdict are UTF-8
 pub details-utf8 : (t : Tree) (c : Command) → IsWellFormed t → All IsUtf8 (check_of t c).details
 details-utf8 t (command.Create name) w = first-texts (create_rows t name) (none, (none, (none, (none, (none, tt)))))
+details-utf8 t (command.CreateVolume name size) w = first-texts (create_volume_rows t name size) (none, (none, (none, (none, (none, (none, tt))))))
 details-utf8 t (command.Snapshot name) w = first-texts (snapshot_rows t name) (none, (none, (none, (none, tt))))
 details-utf8 t (command.Clone source name) w = first-texts (clone_rows t source name) (none, (none, (none, (none, (none, (none, tt))))))
 details-utf8 t (command.Mount name) w = first-texts (mount_rows t name) (none, (none, (none, (none, tt))))

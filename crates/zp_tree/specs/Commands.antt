@@ -5,6 +5,7 @@ use Rattle.zp_names.specs.declared.command.Command.TheVariants as command
 use Rattle.zp_names.specs.declared.verdict.Verdict.{Verdict}
 use Rattle.zp_tree.specs.Tree.{Tree}
 use Rattle.zp_tree.specs.Create.{create_check, create_change}
+use Rattle.zp_tree.specs.CreateVolume.{create_volume_check, create_volume_change}
 use Rattle.zp_tree.specs.TakeSnapshot.{snapshot_check, snapshot_change}
 use Rattle.zp_tree.specs.MakeClone.{clone_check, clone_change}
 use Rattle.zp_tree.specs.Mount.{mount_check, mount_change}
@@ -23,6 +24,7 @@ use Rattle.zp_tree.specs.ReleaseHold.{release_check, release_change}
 -- the verdict on a command
 abbrev pub check_of : Tree → Command → Verdict
 check_of t (command.Create name) = create_check t name
+check_of t (command.CreateVolume name size) = create_volume_check t name size
 check_of t (command.Snapshot name) = snapshot_check t name
 check_of t (command.Clone source name) = clone_check t source name
 check_of t (command.Mount name) = mount_check t name
@@ -41,6 +43,7 @@ check_of t (command.Release name tag) = release_check t name tag
 -- the tree after a command, in a transaction group, at a moment in seconds
 abbrev pub change_of : Tree → Command → ℕ → ℕ → Tree
 change_of t (command.Create name) txg now = create_change t name txg
+change_of t (command.CreateVolume name size) txg now = create_volume_change t name size txg
 change_of t (command.Snapshot name) txg now = snapshot_change t name txg
 change_of t (command.Clone source name) txg now = clone_change t source name txg
 change_of t (command.Mount name) txg now = mount_change t name

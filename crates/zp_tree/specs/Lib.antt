@@ -4,6 +4,7 @@ pub mod WellFormed
 pub mod Rows
 pub mod Kept
 pub mod Create
+pub mod CreateVolume
 pub mod NewPool
 pub mod TakeSnapshot
 pub mod MakeClone

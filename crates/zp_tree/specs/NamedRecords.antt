@@ -41,6 +41,7 @@ is_renamed name (item.Mark b) = false
 
 abbrev pub names_record : Tree → Command → Item → Bool
 names_record t (command.Create name) r = false
+names_record t (command.CreateVolume name size) r = false
 names_record t (command.Snapshot name) r = false
 names_record t (command.Clone source name) r = false
 names_record t (command.Mount name) r = is_called t.records name r
