@@ -15,7 +15,7 @@ pub enum Frame {
     /// `local names = exps`, with the values so far.
     Locals {
         node: NodeId,
-        next: u32,
+        next: usize,
         values: ValueList,
     },
     /// An assignment.
@@ -25,14 +25,14 @@ pub enum Frame {
     /// A call whose arguments are being worked out, with those so far.
     Args {
         node: NodeId,
-        next: u32,
+        next: usize,
         function: Value,
         values: ValueList,
     },
     /// `if`, at the test of this place.
     If {
         node: NodeId,
-        test: u32,
+        test: usize,
     },
     /// `while`
     While(WhileFrame),
@@ -49,7 +49,7 @@ pub enum Frame {
     /// `return`, with the values so far.
     Return {
         node: NodeId,
-        next: u32,
+        next: usize,
         values: ValueList,
     },
     /// A built-in that waits.
@@ -62,14 +62,14 @@ pub enum BodyFrame {
     /// The statements of a block.
     Statements {
         block: NodeId,
-        next: u32,
-        outer: u32,
+        next: usize,
+        outer: usize,
     },
     /// The statements of the block of a `repeat`, whose locals its condition sees.
     Open {
         block: NodeId,
-        next: u32,
-        outer: u32,
+        next: usize,
+        outer: usize,
     },
     /// The end of a function's body: the call that made it goes on.
     Caller {
@@ -83,21 +83,21 @@ pub enum AssignFrame {
     /// The object of a target, which is an index.
     Object {
         node: NodeId,
-        next: u32,
+        next: usize,
         index: NodeId,
         targets: Targets,
     },
     /// The key of a target.
     Key {
         node: NodeId,
-        next: u32,
+        next: usize,
         targets: Targets,
         object: Value,
     },
     /// The values.
     Values {
         node: NodeId,
-        next: u32,
+        next: usize,
         targets: Targets,
         values: ValueList,
     },
@@ -127,8 +127,8 @@ pub enum CalleeFrame {
 /// A `while` loop. `outer` locals were in scope where it began.
 #[derive(Drop)]
 pub enum WhileFrame {
-    Test { node: NodeId, outer: u32 },
-    Turn { node: NodeId, outer: u32 },
+    Test { node: NodeId, outer: usize },
+    Turn { node: NodeId, outer: usize },
 }
 
 /// A `repeat` loop. `outer` locals were in scope where it began, and `before` where its turn began.
@@ -136,13 +136,13 @@ pub enum WhileFrame {
 pub enum RepeatFrame {
     Turn {
         node: NodeId,
-        outer: u32,
-        before: u32,
+        outer: usize,
+        before: usize,
     },
     Test {
         node: NodeId,
-        outer: u32,
-        before: u32,
+        outer: usize,
+        before: usize,
     },
 }
 
@@ -167,8 +167,8 @@ pub enum CountFrame {
         at: i64,
         limit: i64,
         step: i64,
-        outer: u32,
-        before: u32,
+        outer: usize,
+        before: usize,
     },
 }
 
@@ -178,7 +178,7 @@ pub enum EachFrame {
     /// The iterator function, the state and the first control value.
     Values {
         node: NodeId,
-        next: u32,
+        next: usize,
         values: ValueList,
     },
     /// The call of the iterator function.
@@ -186,7 +186,7 @@ pub enum EachFrame {
         node: NodeId,
         function: Value,
         state: Value,
-        outer: u32,
+        outer: usize,
     },
     /// The block.
     Turn {
@@ -194,8 +194,8 @@ pub enum EachFrame {
         function: Value,
         state: Value,
         control: Value,
-        outer: u32,
-        before: u32,
+        outer: usize,
+        before: usize,
     },
 }
 
@@ -205,24 +205,24 @@ pub enum TableFrame {
     /// The value of a field without a key.
     Item {
         node: NodeId,
-        next: u32,
+        next: usize,
         table: TableId,
-        count: u32,
+        count: u64,
     },
     /// The key of a field whose value is at this node.
     Key {
         node: NodeId,
-        next: u32,
+        next: usize,
         table: TableId,
-        count: u32,
+        count: u64,
         value: NodeId,
     },
     /// The value at a key.
     Entry {
         node: NodeId,
-        next: u32,
+        next: usize,
         table: TableId,
-        count: u32,
+        count: u64,
         key: Value,
     },
 }

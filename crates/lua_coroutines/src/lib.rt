@@ -3,13 +3,17 @@
 
 mod call;
 mod frame;
+mod host;
 mod stack;
 #[cfg(test)]
 mod tests;
+mod threads;
 
 pub use call::{CallInProgress, Lines, Targets};
 pub use frame::{
     AssignFrame, BodyFrame, CalleeFrame, CountFrame, EachFrame, Frame, NativeFrame, OperandFrame,
     RepeatFrame, TableFrame, WhileFrame,
 };
+pub use host::Host;
 pub use stack::Stack;
+pub use threads::CoTable;

@@ -94,26 +94,38 @@ abbrev pub negative : Option ℤ → Value → List ℕ → Op
 negative (Some z) a lines = done (value.Int (wrapped (neg_ℤ z)))
 negative None a lines = λ h. by_meta_or (metamethod h a (codes "__unm")) (a ∷ []) false (op_fails_on lines (codes "perform arithmetic on") a) h
 
--- `..`: the memory of the result, then an instruction for each 64 bytes of it
+-- the result of `..`: its memory, then an instruction for each 64 bytes of it
+abbrev pub concat_text : List ℕ → Op
+concat_text s = op_charge (text_bytes s) (op_ticks (length s / 64) (done (value.Text s)))
+
+-- `..`
 abbrev pub concat : Texts → Value → Value → List ℕ → Op
-concat (texts s t) a b lines = op_charge (text_bytes (s ++ t)) (op_ticks (length (s ++ t) / 64) (done (value.Text (s ++ t))))
+concat (texts s t) a b lines = concat_text (s ++ t)
 concat not_texts a b lines = λ h. by_meta_or (either h (codes "__concat") a b) (a ∷ b ∷ []) false (op_fails_on lines (codes "concatenate") (first_without as_text a b)) h
 
 abbrev pub fails_compare : Value → Value → List ℕ → Op
 fails_compare a b lines = op_fails lines (codes "attempt to compare " ++ type_name a ++ codes " with " ++ type_name b)
 
+-- `<` by `__lt`
+abbrev pub less_by : Value → Value → List ℕ → Op
+less_by a b lines = λ h. by_meta_or (either h (codes "__lt") a b) (a ∷ b ∷ []) false (fails_compare a b lines) h
+
 -- `<`
 abbrev pub less : Value → Value → List ℕ → Op
 less (value.Int x) (value.Int y) lines = done (value.Bool (int_lt x y))
 less (value.Text x) (value.Text y) lines = done (value.Bool (is_lt (slice_cmp nat_cmp x y)))
-less a b lines = λ h. by_meta_or (either h (codes "__lt") a b) (a ∷ b ∷ []) false (fails_compare a b lines) h
+less a b lines = less_by a b lines
 
--- `<=`: by `__le` of either, or else by `not (b < a)`
+-- `<=` by `__le` of either, or else by `not (b < a)`
+abbrev pub not_greater_by : Value → Value → List ℕ → Op
+not_greater_by a b lines = λ h. by_meta_or (either h (codes "__le") a b) (a ∷ b ∷ []) false
+    (by_meta_or (either h (codes "__lt") b a) (b ∷ a ∷ []) true (fails_compare a b lines)) h
+
+-- `<=`
 abbrev pub less_or_same : Value → Value → List ℕ → Op
 less_or_same (value.Int x) (value.Int y) lines = done (value.Bool (not (int_lt y x)))
 less_or_same (value.Text x) (value.Text y) lines = done (value.Bool (is_le (slice_cmp nat_cmp x y)))
-less_or_same a b lines = λ h. by_meta_or (either h (codes "__le") a b) (a ∷ b ∷ []) false
-    (by_meta_or (either h (codes "__lt") b a) (b ∷ a ∷ []) true (fails_compare a b lines)) h
+less_or_same a b lines = not_greater_by a b lines
 
 -- the `__eq` that two tables both have
 abbrev pub common : HeapOf → Value → Value → Value

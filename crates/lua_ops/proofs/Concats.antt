@@ -2,9 +2,9 @@
 use Rattle.std.proofs.Common.{◌≡◌, List, ◌++◌, ℕ, Some, None, subst}
 use Rattle.lua_meaning.specs.declared.value.Value.{Value}
 use Rattle.lua_meaning.specs.Heap.{HeapOf}
-use Rattle.lua_meaning.specs.Operators.{Op, Texts, texts, not_texts, concat}
+use Rattle.lua_meaning.specs.Operators.{Texts, texts, not_texts, concat, concat_text}
 use Rattle.lua_ops.specs.Answers.{IsOpAnswer}
-use Rattle.lua_ops.specs.Texts.{concat_text, joined_texts}
+use Rattle.lua_ops.specs.Texts.{joined_texts}
 use Rattle.lua_ops.specs.declared.result.OpResult.{OpResult}
 
 pub concat_joined : (ts : Texts) (text whole : List ℕ) (a b : Value) (lines : List ℕ) (h h' : HeapOf) (r : OpResult) → Some whole ≡ joined_texts ts → text ≡ whole → IsOpAnswer (concat_text text) h r h' → IsOpAnswer (concat ts a b lines) h r h'

@@ -1,5 +1,5 @@
 -- A power by the two parts of its exponent.
-use Rattle.std.proofs.Common.{◌≡◌, ◌∙◌, ℕ, zero, suc, ◌+◌, ◌*◌, ◌/◌, ◌%◌, ◌^◌, refl, sym, ap, arith}
+use Rattle.std.proofs.Common.{◌≡◌, ◌∙◌, ℕ, zero, suc, ◌*◌, ◌/◌, ◌%◌, ◌^◌, sym, ap}
 use Rattle.std.proofs.lemmas.Nat.{pow-mod, pow-add, mul-mod, mul-mod_first}
 use Rattle.std.proofs.Math.Nat.{div-add-mod, pow-zero, pow-suc, mul-zero, mul-suc}
 

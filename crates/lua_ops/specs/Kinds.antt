@@ -1,10 +1,9 @@
--- The operators by the kinds that the calls take, and what they do with values that are not of a kind.
-use Rattle.std.specs.Prelude.{[], ◌∷◌, List, ℕ, false, true, codes}
-use Rattle.lua_ast.specs.declared.node.BinOp.{BinOp}
+-- The operators by the kinds that the calls take.
+use Rattle.std.specs.Prelude.{List, ℕ}
 use Rattle.lua_ast.specs.declared.node.BinOp.TheVariants as bin
 use Rattle.lua_ast.specs.declared.node.UnOp.TheVariants as un
 use Rattle.lua_meaning.specs.declared.value.Value.{Value}
-use Rattle.lua_meaning.specs.Operators.{Op, either, by_meta_or, fails_compare, equal, less, less_or_same, binary_op, unary_op}
+use Rattle.lua_meaning.specs.Operators.{Op, equal, less, less_or_same, binary_op, unary_op}
 use Rattle.lua_ops.specs.declared.comparison.CompareOp.{CompareOp}
 use Rattle.lua_ops.specs.declared.comparison.CompareOp.TheVariants as kind
 use Rattle.lua_ops.specs.declared.arithmetic.ArithOp.{ArithOp}
@@ -24,12 +23,3 @@ arith_op arith.Div a b lines = binary_op bin.Div a b lines
 arith_op arith.Mod a b lines = binary_op bin.Mod a b lines
 arith_op arith.Pow a b lines = binary_op bin.Pow a b lines
 arith_op arith.Neg a b lines = unary_op un.Neg a lines
-
--- `<` by `__lt`
-abbrev pub less_by : Value → Value → List ℕ → Op
-less_by a b lines = λ h. by_meta_or (either h (codes "__lt") a b) (a ∷ b ∷ []) false (fails_compare a b lines) h
-
--- `<=` by `__le`, or else by `__lt` of the operands in the other order
-abbrev pub not_greater_by : Value → Value → List ℕ → Op
-not_greater_by a b lines = λ h. by_meta_or (either h (codes "__le") a b) (a ∷ b ∷ []) false
-    (by_meta_or (either h (codes "__lt") b a) (b ∷ a ∷ []) true (fails_compare a b lines)) h

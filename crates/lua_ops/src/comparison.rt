@@ -4,11 +4,11 @@ ghost use Rattle.std.specs.Prelude.{◌≡◌, ◌≤◌, ◌+◌, IfOk};
 ghost use Rattle.std.specs.Ordering.{nat_cmp};
 ghost use Rattle.std.specs.Cmp.Lexicographic.{slice_cmp};
 ghost use Rattle.lua_meaning.specs.Values.{same};
-ghost use Rattle.lua_meaning.specs.Operators.{common, equal, less, less_or_same};
+ghost use Rattle.lua_meaning.specs.Operators.{common, equal, less, less_by, less_or_same, not_greater_by};
 ghost use Rattle.lua_values.specs.Lending.{with_budget};
 ghost use Rattle.lua_values.specs.Ids.{ids_of, IsOf};
 ghost use Rattle.lua_ops.specs.Answers.{IsOpAnswer, IsOwnAnswer};
-ghost use Rattle.lua_ops.specs.Kinds.{compare_op, less_by, not_greater_by};
+ghost use Rattle.lua_ops.specs.Kinds.{compare_op};
 
 use crate::errors::fails_compare;
 use crate::metamethods::{called, either};

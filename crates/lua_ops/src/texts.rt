@@ -5,11 +5,11 @@ ghost use Rattle.std.specs.Fmt.{signed_decimal};
 ghost use Rattle.lua_meaning.specs.Builtins.{name_of};
 ghost use Rattle.lua_meaning.specs.Numbers.{as_text};
 ghost use Rattle.lua_meaning.specs.Texts.{plain_text, to_text};
-ghost use Rattle.lua_meaning.specs.Operators.{Op, Stopped, op_ticks, concat, two_texts, not_texts, first_without};
+ghost use Rattle.lua_meaning.specs.Operators.{Op, Stopped, op_ticks, concat, concat_text, two_texts, not_texts, first_without};
 ghost use Rattle.lua_values.specs.Lending.{with_budget};
 ghost use Rattle.lua_values.specs.Ids.{ids_of, IsOf};
 ghost use Rattle.lua_ops.specs.Answers.{IsOpAnswer, IsOwnAnswer};
-ghost use Rattle.lua_ops.specs.Texts.{joined_texts, concat_text, IsAppended};
+ghost use Rattle.lua_ops.specs.Texts.{joined_texts, IsAppended};
 
 use crate::errors::fails_on;
 use crate::metamethods::{called, either};

@@ -3,4 +3,8 @@
 #![tactic(auto)]
 
 #[cfg(test)]
+mod error_tests;
+#[cfg(test)]
+mod metamethod_tests;
+#[cfg(test)]
 mod tests;

@@ -1,11 +1,9 @@
 -- Assignments and table constructors.
-use Rattle.std.proofs.Common.{◌≡◌, ◌∙◌, ℕ, zero, suc, ◌+◌, ◌<◌, ◌≤◌, pos, List, [], ◌∷◌, ◌++◌, drop, length, Some, None, Bool, true, false, refl, sym, arith, ap}
+use Rattle.std.proofs.Common.{◌≡◌, ◌∙◌, ℕ, ◌+◌, List, [], ◌∷◌, ◌++◌, drop, Bool, true, false, refl, arith, ap}
 use Rattle.std.proofs.lemmas.Bool.{true≢false}
 use Rattle.zc_budget.specs.Used.{is_spent}
-use Rattle.zc_budget.specs.declared.budget.Stop.{Stop}
 use Rattle.zc_budget.specs.declared.budget.Stop.TheVariants as stop
 use Rattle.lua_ast.specs.declared.node.LinedNode.{LinedNode}
-use Rattle.lua_ast.specs.declared.node.Field.{Field}
 use Rattle.lua_ast.specs.declared.node.Field.TheVariants as field
 use Rattle.lua_ast.specs.Tree as syntax
 use Rattle.lua_ast.specs.Tree.{Tree}
@@ -17,10 +15,10 @@ use Rattle.lua_meaning.specs.Values.{first}
 use Rattle.lua_meaning.specs.Heap.{set_cell}
 use Rattle.lua_meaning.specs.Store.{Store, store, Ending, Stops, Resumptions, Result, Go, Halt, heap_of, with_heap}
 use Rattle.lua_meaning.specs.Code.{Code}
-use Rattle.lua_meaning.specs.Runs.{Run, go, used_of, at_line, tick, after, put}
+use Rattle.lua_meaning.specs.Runs.{Run, go, used_of, at_line, after, put}
 use Rattle.lua_meaning.specs.Locals.{locals_of, with_locals, with_held}
 use Rattle.lua_meaning.specs.Jobs.{HostOf, Again}
-use Rattle.lua_meaning.specs.Nodes.{target_of, name_target, put_items, store_one, hold}
+use Rattle.lua_meaning.specs.Nodes.{target_of, name_target, put_items}
 use Rattle.lua_coroutines.specs.declared.frame.Frame.{Frame}
 use Rattle.lua_coroutines.specs.declared.frame.Frame.TheVariants as frame
 use Rattle.lua_coroutines.specs.declared.frame.AssignFrame.TheVariants as assign
@@ -28,8 +26,8 @@ use Rattle.lua_coroutines.specs.declared.frame.TableFrame.TheVariants as table
 use Rattle.lua_steps.specs.declared.mode.Mode.{Mode}
 use Rattle.lua_steps.specs.declared.mode.Mode.TheVariants as mode
 use Rattle.lua_steps.specs.Parts.{part, line_number, list_at, targets_at, object_at, key_at, fields_at, no_field_left, items_by, targets_from}
-use Rattle.lua_steps.specs.Frames.{jobs_at, goes_on, means, values_for, targets_then, function_stored, store_at, fields_then}
-use Rattle.lua_steps.specs.Works.{spare, need, used, limit, Goes, Works}
+use Rattle.lua_steps.specs.Frames.{jobs_at, means, values_for, function_stored, store_at, fields_then}
+use Rattle.lua_steps.specs.Works.{spare, need, Goes, Works}
 use Rattle.lua_steps.proofs.Lists.{expressions_are}
 use Rattle.lua_steps.proofs.Steps.{after_tick, same, push, falls_to, enters}
 

@@ -1,5 +1,5 @@
 -- How each node begins.
-use Rattle.std.proofs.Common.{◌≡◌, ℕ, ◌+◌, List, [], ◌∷◌, length, drop, Some, None, false, refl, arith, ap, ◌∙◌}
+use Rattle.std.proofs.Common.{◌≡◌, ℕ, List, [], ◌∷◌, length, drop, Some, None, false, refl, arith, ap, ◌∙◌}
 use Rattle.zc_budget.specs.Used.{is_spent}
 use Rattle.lua_ast.specs.declared.node.Literal.{Literal}
 use Rattle.lua_ast.specs.declared.node.LinedNode.{LinedNode}

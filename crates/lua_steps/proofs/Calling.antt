@@ -1,5 +1,5 @@
 -- Calls: what is called, its arguments, the bodies of closures, built-ins and `__call`.
-use Rattle.std.proofs.Common.{◌≡◌, ◌∙◌, ℕ, zero, suc, ◌+◌, ◌<◌, ◌≤◌, List, [], ◌∷◌, ◌++◌, drop, length, Option, Some, None, Bool, true, false, refl, sym, subst, arith, ap}
+use Rattle.std.proofs.Common.{◌≡◌, ◌∙◌, ℕ, zero, suc, ◌+◌, ◌<◌, ◌≤◌, List, [], ◌∷◌, ◌++◌, drop, length, Some, Bool, true, false, refl, sym, arith, ap}
 use Rattle.std.proofs.lemmas.Bool.{true≢false}
 use Rattle.std.specs.Prelude.{slice_get, nat_lt, nat_le, codes}
 use Rattle.zc_budget.specs.Used.{is_spent}
@@ -14,13 +14,13 @@ use Rattle.lua_meaning.specs.declared.value.Value.TheVariants as value
 use Rattle.lua_meaning.specs.declared.status.After.{After}
 use Rattle.lua_meaning.specs.Values.{first, is_nil, is_function}
 use Rattle.lua_meaning.specs.Heap.{ClosureOf, metamethod}
-use Rattle.lua_meaning.specs.Store.{State, Store, store, CallOf, Ending, Raises, Stops, Resumptions, Result, Go, Halt, heap_of, state_of, with_state, below_of, call_of, with_call}
+use Rattle.lua_meaning.specs.Store.{State, Store, store, CallOf, Raises, Stops, Resumptions, Result, Go, Halt, heap_of, state_of, with_state, below_of, call_of, with_call}
 use Rattle.lua_meaning.specs.Code.{Code}
-use Rattle.lua_meaning.specs.Runs.{Run, go, used_of, at_line, line_at as line_of_call, tick, after, if_few, fails, fails_on}
+use Rattle.lua_meaning.specs.Runs.{Run, used_of, at_line, line_at as line_of_call, tick, after, if_few, fails, fails_on}
 use Rattle.lua_meaning.specs.Locals.{declare_all, captured_locals}
-use Rattle.lua_meaning.specs.Jobs.{HostOf, Again, Resumes, Answer, Values, Raise, Stopped, CallThen, Apply}
+use Rattle.lua_meaning.specs.Jobs.{HostOf, Again, Resumes, Values, Raise, Stopped, CallThen, Apply}
 use Rattle.lua_meaning.specs.Nodes.{eval, call}
-use Rattle.lua_meaning.specs.Calls.{body_ends, body_call, varargs_of, crossing, then_made, made_of, answered, host_answers, apply, by_call}
+use Rattle.lua_meaning.specs.Calls.{body_ends, body_call, varargs_of, crossing, then_made, made_of, apply, by_call}
 use Rattle.lua_meaning.specs.Programs.{jobs, resume}
 use Rattle.lua_coroutines.specs.declared.frame.Frame.{Frame}
 use Rattle.lua_coroutines.specs.declared.frame.Frame.TheVariants as frame
@@ -33,7 +33,7 @@ use Rattle.lua_steps.specs.Parts.{part, line_number, list_at, name_there, more}
 use Rattle.lua_steps.specs.Frames.{jobs_at, goes_on, means, make_call, inner_of}
 use Rattle.lua_steps.specs.Works.{spare, need, used, limit, Goes, Works}
 use Rattle.lua_steps.proofs.Lists.{expressions_are, more_behind}
-use Rattle.lua_steps.proofs.Steps.{after_tick, same, stay, push, falls_to, enters}
+use Rattle.lua_steps.proofs.Steps.{after_tick, stay, push, falls_to, enters}
 
 module _ {H : Type 0} (host : HostOf H) (code : Code) (nodes : List LinedNode) (ended : ℕ) (whole : ℕ → Resumptions H → Result H) where
   abbrev At : Store H → List Frame → Mode → Type 0

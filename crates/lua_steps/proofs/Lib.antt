@@ -8,3 +8,6 @@ pub mod Operands
 pub mod Assigning
 pub mod Calling
 pub mod Passing
+pub mod Starting
+pub mod Later
+pub mod NodeTrees

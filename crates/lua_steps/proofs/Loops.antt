@@ -1,5 +1,5 @@
 -- `if` and the loops.
-use Rattle.std.proofs.Common.{◌≡◌, ℕ, zero, suc, ◌+◌, ◌<◌, ◌≤◌, ℤ, pos, List, [], ◌∷◌, ◌++◌, drop, Option, Some, None, Bool, true, false, refl, arith, ap, ◌∙◌}
+use Rattle.std.proofs.Common.{◌≡◌, ℕ, zero, suc, ◌+◌, ◌<◌, ◌≤◌, ℤ, pos, List, [], ◌∷◌, ◌++◌, drop, Some, None, Bool, true, false, refl, arith, ap, ◌∙◌}
 use Rattle.std.specs.Prelude.{◌+ℤ◌}
 use Rattle.std.proofs.lemmas.Bool.{true≢false}
 use Rattle.zc_budget.specs.Used.{is_spent}
@@ -8,7 +8,7 @@ use Rattle.zc_budget.specs.declared.budget.Stop.TheVariants as stop
 use Rattle.lua_ast.specs.declared.node.LinedNode.{LinedNode}
 use Rattle.lua_ast.specs.Tree as syntax
 use Rattle.lua_ast.specs.Tree.{Tree}
-use Rattle.lua_ast.specs.Decode.{list_of, maybe_of}
+use Rattle.lua_ast.specs.Decode.{list_of}
 use Rattle.lua_meaning.specs.declared.value.Value.{Value}
 use Rattle.lua_meaning.specs.declared.value.Value.TheVariants as value
 use Rattle.lua_meaning.specs.Values.{first, truth, is_nil}

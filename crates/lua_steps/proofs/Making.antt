@@ -1,5 +1,5 @@
 -- Nodes that make something of the heap, and nodes without an instruction left.
-use Rattle.std.proofs.Common.{◌≡◌, ◌∙◌, ℕ, ◌+◌, ◌<◌, ◌≤◌, List, [], ◌∷◌, Bool, true, false, refl, arith, ap}
+use Rattle.std.proofs.Common.{◌≡◌, ◌∙◌, ℕ, ◌+◌, ◌≤◌, List, [], ◌∷◌, Bool, true, false, refl, arith}
 use Rattle.zc_budget.specs.Used.{is_spent}
 use Rattle.zc_budget.specs.declared.budget.Stop.{Stop}
 use Rattle.zc_budget.specs.declared.budget.Stop.TheVariants as stop
@@ -22,8 +22,8 @@ use Rattle.lua_coroutines.specs.declared.frame.AssignFrame.TheVariants as assign
 use Rattle.lua_steps.specs.declared.mode.Mode.{Mode}
 use Rattle.lua_steps.specs.declared.mode.Mode.TheVariants as mode
 use Rattle.lua_steps.specs.Parts.{part, line_number, function_at, fields_at}
-use Rattle.lua_steps.specs.Frames.{jobs_at, means, function_stored}
-use Rattle.lua_steps.specs.Works.{spare, need, used, limit, Goes, Works}
+use Rattle.lua_steps.specs.Frames.{jobs_at, function_stored}
+use Rattle.lua_steps.specs.Works.{used, Goes, Works}
 use Rattle.lua_steps.proofs.Lists.{fields_are}
 use Rattle.lua_steps.proofs.Steps.{after_tick, same, push}
 

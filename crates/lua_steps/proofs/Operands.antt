@@ -1,5 +1,5 @@
 -- Operators, indexes and parentheses, with their metamethods.
-use Rattle.std.proofs.Common.{◌≡◌, ◌∙◌, ℕ, zero, suc, ◌+◌, ◌<◌, ◌≤◌, List, [], ◌∷◌, ◌++◌, drop, Option, Some, None, Bool, true, false, refl, sym, arith, ap}
+use Rattle.std.proofs.Common.{◌≡◌, ◌∙◌, ℕ, zero, suc, ◌+◌, ◌<◌, ◌≤◌, List, [], ◌∷◌, Option, Some, None, Bool, true, false, refl, arith}
 use Rattle.std.proofs.lemmas.Bool.{true≢false}
 use Rattle.std.specs.Prelude.{codes}
 use Rattle.zc_budget.specs.Used.{is_spent}
@@ -12,10 +12,10 @@ use Rattle.lua_meaning.specs.declared.value.Value.{Value}
 use Rattle.lua_meaning.specs.declared.value.Value.TheVariants as value
 use Rattle.lua_meaning.specs.Values.{first, truth, is_nil, is_function}
 use Rattle.lua_meaning.specs.Heap.{HeapOf, entry, metamethod}
-use Rattle.lua_meaning.specs.Store.{Store, store, Resumptions, Result, Go, Halt, heap_of, with_heap}
+use Rattle.lua_meaning.specs.Store.{Store, store, Resumptions, Result, Go, heap_of, with_heap}
 use Rattle.lua_meaning.specs.Code.{Code}
-use Rattle.lua_meaning.specs.Runs.{Run, go, used_of, at_line, tick, after, fails_on, put}
-use Rattle.lua_meaning.specs.Jobs.{HostOf, Apply, Again, Look, Put}
+use Rattle.lua_meaning.specs.Runs.{go, used_of, at_line, fails_on, put}
+use Rattle.lua_meaning.specs.Jobs.{HostOf, Again}
 use Rattle.lua_meaning.specs.Operators as operators
 use Rattle.lua_meaning.specs.Operators.{binary_op, unary_op, told, negated_if, by_meta}
 use Rattle.lua_meaning.specs.Indexing.{look, look_in, look_by, look_further, put_at, put_over, put_else, put_further, string_table}
@@ -26,8 +26,8 @@ use Rattle.lua_coroutines.specs.declared.frame.AssignFrame.TheVariants as assign
 use Rattle.lua_coroutines.specs.declared.frame.OperandFrame.TheVariants as operand
 use Rattle.lua_steps.specs.declared.mode.Mode.{Mode}
 use Rattle.lua_steps.specs.declared.mode.Mode.TheVariants as mode
-use Rattle.lua_steps.specs.Parts.{part, line_number, key_at, right_at, binary_at, logic_at, unary_at}
-use Rattle.lua_steps.specs.Frames.{jobs_at, goes_on, means, told_of}
+use Rattle.lua_steps.specs.Parts.{line_number, key_at, right_at, binary_at, logic_at, unary_at}
+use Rattle.lua_steps.specs.Frames.{jobs_at, means, told_of}
 use Rattle.lua_steps.specs.Works.{spare, need, used, limit, Goes, Works}
 use Rattle.lua_steps.proofs.Steps.{after_tick, same, stay, push, swap, falls_to, enters}
 

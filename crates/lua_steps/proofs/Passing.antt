@@ -1,9 +1,9 @@
 -- What errors, stops, returns, breaks and jumps pass.
-use Rattle.std.proofs.Common.{◌≡◌, ◌∙◌, ℕ, ◌+◌, ◌<◌, ◌≤◌, List, [], ◌∷◌, Bool, true, false, refl, subst, arith}
+use Rattle.std.proofs.Common.{◌≡◌, ℕ, List, [], ◌∷◌, Bool, true, false, refl, subst, arith}
 use Rattle.zc_budget.specs.declared.budget.Stop.{Stop}
 use Rattle.lua_ast.specs.declared.node.LinedNode.{LinedNode}
 use Rattle.lua_meaning.specs.declared.value.Value.{Value}
-use Rattle.lua_meaning.specs.Store.{Store, store, Ending, Breaks, Jumps, Returns, Raises, Stops, Resumptions, Result, Go, Halt}
+use Rattle.lua_meaning.specs.Store.{Store, store, Breaks, Jumps, Returns, Raises, Stops, Resumptions, Result, Halt}
 use Rattle.lua_meaning.specs.Code.{Code}
 use Rattle.lua_meaning.specs.Jobs.{HostOf}
 use Rattle.lua_coroutines.specs.declared.frame.Frame.{Frame}
@@ -21,8 +21,8 @@ use Rattle.lua_coroutines.specs.declared.frame.NativeFrame.TheVariants as native
 use Rattle.lua_steps.specs.declared.mode.Mode.{Mode}
 use Rattle.lua_steps.specs.declared.mode.Mode.TheVariants as mode
 use Rattle.lua_steps.specs.Parts.{name_there}
-use Rattle.lua_steps.specs.Frames.{goes_on, means}
-use Rattle.lua_steps.specs.Works.{spare, need, used, limit, Goes, Leads, Works}
+use Rattle.lua_steps.specs.Frames.{goes_on}
+use Rattle.lua_steps.specs.Works.{Leads, Works}
 use Rattle.lua_steps.proofs.Steps.{falls_to}
 
 module _ {H : Type 0} (host : HostOf H) (code : Code) (nodes : List LinedNode) (ended : ℕ) (whole : ℕ → Resumptions H → Result H) where

@@ -1,7 +1,6 @@
 -- Steps by what they do with the frames: none, one more, one fewer, another on top.
-use Rattle.std.proofs.Common.{◌≡◌, ℕ, ◌+◌, ◌<◌, ◌≤◌, List, [], ◌∷◌, Bool, true, false, refl, sym, subst, arith}
-use Rattle.zc_budget.specs.Used.{is_spent, ticked}
-use Rattle.zc_budget.specs.declared.budget.Stop.TheVariants as stop
+use Rattle.std.proofs.Common.{◌≡◌, ℕ, ◌+◌, ◌<◌, ◌≤◌, List, [], ◌∷◌, refl, sym, subst, arith}
+use Rattle.zc_budget.specs.Used.{ticked}
 use Rattle.lua_ast.specs.declared.node.LinedNode.{LinedNode}
 use Rattle.lua_meaning.specs.Store.{Store, store, Resumptions, Result}
 use Rattle.lua_meaning.specs.Code.{Code}
@@ -11,7 +10,7 @@ use Rattle.lua_coroutines.specs.declared.frame.Frame.{Frame}
 use Rattle.lua_steps.specs.declared.mode.Mode.{Mode}
 use Rattle.lua_steps.specs.declared.mode.Mode.TheVariants as mode
 use Rattle.lua_steps.specs.Frames.{goes_on, means}
-use Rattle.lua_steps.specs.Works.{spare, need, used, limit, Goes, Leads, Ends, Works}
+use Rattle.lua_steps.specs.Works.{spare, need, used, limit, Goes, Leads, Works}
 
 module _ {H : Type 0} where
   abbrev pub after_tick : Store H → Store H

@@ -9,7 +9,7 @@ use Rattle.lua_meaning.specs.declared.variable.Target.{Target}
 use Rattle.lua_meaning.specs.declared.variable.Target.TheVariants as target
 use Rattle.lua_meaning.specs.Values.{first}
 use Rattle.lua_meaning.specs.Numbers.{to_int, fits}
-use Rattle.lua_meaning.specs.Store.{Store, Resumptions, Result, Go, Halt, Breaks, Jumps, Returns, Raises, Stops, with_call}
+use Rattle.lua_meaning.specs.Store.{Result, Breaks, Jumps, Returns, Raises, Stops, with_call}
 use Rattle.lua_meaning.specs.Code.{Code}
 use Rattle.lua_meaning.specs.Runs.{Run, go, halt, after, tick, at_line, if_few, put}
 use Rattle.lua_meaning.specs.Locals.{declare_all, cut, locals_of, slot_of, local_count}
@@ -34,7 +34,7 @@ use Rattle.lua_coroutines.specs.declared.frame.OperandFrame.TheVariants as opera
 use Rattle.lua_coroutines.specs.declared.frame.NativeFrame.TheVariants as native
 use Rattle.lua_steps.specs.declared.mode.Mode.{Mode}
 use Rattle.lua_steps.specs.declared.mode.Mode.TheVariants as mode
-use Rattle.lua_steps.specs.Parts.{part, line_number, list_at, name_count_at, targets_at, test_at, block_at, tests_at, blocks_at, otherwise_at, limit_at, step_at, key_at, name_there, right_at, binary_at, logic_at, unary_at, fields_at, run_all, more, targets_from, choose_from, chose, fields_from, items_then}
+use Rattle.lua_steps.specs.Parts.{part, line_number, list_at, name_count_at, targets_at, test_at, block_at, tests_at, blocks_at, otherwise_at, limit_at, step_at, key_at, name_there, right_at, binary_at, logic_at, unary_at, fields_at, run_all, more, targets_from, chose, fields_from, items_then}
 
 -- the lines of the calls in progress at a call: none at a coroutine's own function
 abbrev pub inner_of : (is_own : Bool) → List ℕ → List ℕ

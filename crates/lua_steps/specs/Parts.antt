@@ -11,8 +11,8 @@ use Rattle.lua_ast.specs.declared.node.LogicOp.TheVariants as logic_op
 use Rattle.lua_ast.specs.declared.node.UnOp.{UnOp}
 use Rattle.lua_ast.specs.declared.node.UnOp.TheVariants as un
 use Rattle.lua_ast.specs.declared.node.LinedNode.{LinedNode}
-use Rattle.lua_ast.specs.Tree.{Tree, Maybe}
-use Rattle.lua_ast.specs.Decode.{tree, own_number, maybe_of}
+use Rattle.lua_ast.specs.Tree.{Tree}
+use Rattle.lua_ast.specs.Decode.{tree, own_number}
 use Rattle.lua_meaning.specs.declared.value.Value.{Value}
 use Rattle.lua_meaning.specs.declared.value.Value.TheVariants as value
 use Rattle.lua_meaning.specs.declared.variable.Target.{Target}

@@ -28,7 +28,7 @@ pub enum Mode {
     /// It works out what an assignment stores to, from the target at `next` on.
     Targets {
         node: NodeId,
-        next: u32,
+        next: usize,
         targets: Targets,
     },
     /// It stores the values of an assignment.
@@ -41,9 +41,9 @@ pub enum Mode {
     /// number.
     Fields {
         node: NodeId,
-        next: u32,
+        next: usize,
         table: TableId,
-        count: u32,
+        count: u64,
     },
     /// It looks `object[key]` up.
     Look {
@@ -64,12 +64,12 @@ pub enum Mode {
         at: i64,
         limit: i64,
         step: i64,
-        outer: u32,
+        outer: usize,
     },
     /// It begins a turn of a `repeat`.
     Round {
         node: NodeId,
-        outer: u32,
+        outer: usize,
     },
     /// It begins the block of a `repeat`.
     Open(NodeId),
@@ -79,7 +79,7 @@ pub enum Mode {
         function: Value,
         state: Value,
         control: Value,
-        outer: u32,
+        outer: usize,
     },
     /// It calls a function, where `is_own` as a coroutine's own.
     Call {

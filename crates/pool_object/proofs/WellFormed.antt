@@ -4,7 +4,6 @@ use Rattle.std.specs.List.{list_all}
 use Rattle.std.proofs.lemmas.Bool.{and_parts}
 use Rattle.zp_names.specs.declared.command.Command.{Command}
 use Rattle.zp_names.specs.declared.command.Command.TheVariants as command
-use Rattle.zp_names.specs.declared.command.Query.TheVariants as query
 use Rattle.zp_tree.specs.Tree.{Tree}
 use Rattle.zp_tree.specs.Rows.{passed}
 use Rattle.zp_tree.specs.WellFormed.{IsWellFormed}
@@ -32,6 +31,7 @@ use Rattle.zp_calls.specs.declared.call.Call.{Call}
 use Rattle.zp_calls.specs.declared.call.Call.TheVariants as call
 use Rattle.zp_calls.specs.Names.{HasValidNames}
 use Rattle.zp_calls.specs.Replies.{IsPrintable}
+use Rattle.zcp_read.proofs.Printable.{answer-printable}
 use Rattle.pool_object.specs.Pool.{does}
 
 -- a valid name is a head's or has a valid short name
@@ -74,4 +74,4 @@ does-well now t (call.Query q) group w valid = w
 -- the reply to a call
 pub does-printable : (now : ℕ) (t : Tree) (c : Call) (group : ℕ) → IsWellFormed t → IsPrintable (does now t c group).0
 does-printable now t (call.Command c) group w = details-utf8 t c w
-does-printable now t (call.Query (query.Exists name)) group w = tt
+does-printable now t (call.Query q) group w = answer-printable t q w

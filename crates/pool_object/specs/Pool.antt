@@ -2,10 +2,8 @@
 -- Source: dsl_synctask.c: a task is checked again while syncing, and no change comes between this check and its own.
 use Rattle.std.specs.Prelude.{ℕ, ◌==◌, Option, Some, None, if◌then◌else◌}
 use Rattle.zp_names.specs.declared.command.Command.{Command}
-use Rattle.zp_names.specs.declared.command.Query.{Query}
-use Rattle.zp_names.specs.declared.command.Query.TheVariants as query
 use Rattle.zp_names.specs.declared.verdict.Verdict.{Verdict}
-use Rattle.zp_tree.specs.Tree.{Tree, exists}
+use Rattle.zp_tree.specs.Tree.{Tree}
 use Rattle.zp_tree.specs.Commands.{check_of, change_of}
 use Rattle.txg_core.specs.Rules.{Rules, Meaning}
 use Rattle.txg_core.specs.declared.object.Kind.{Kind}
@@ -14,16 +12,14 @@ use Rattle.zp_calls.specs.declared.call.Call.{Call}
 use Rattle.zp_calls.specs.declared.call.Call.TheVariants as call
 use Rattle.zp_calls.specs.declared.reply.Reply.{Reply}
 use Rattle.zp_calls.specs.declared.reply.Reply.TheVariants as reply
-
--- the answer to a query
-abbrev pub answer_of : Tree → Query → Reply
-answer_of t (query.Exists name) = reply.Exists (exists t name)
+use Rattle.zcp_read.specs.Answers.{answer_of}
 
 -- the tree after a command that has this verdict
 abbrev pub tree_after : ℕ → Tree → Verdict → Command → ℕ → Tree
 tree_after now t v c group = if v.errno == 0 then change_of t c group now else t
 
--- doing a call in a transaction group, at a moment: a command is its check, and its change where the errno is 0
+-- doing a call in a transaction group, at a moment: a command is its check, and its change where the errno is 0; a query
+-- is answered and leaves the tree
 abbrev pub does : ℕ → Tree → Call → ℕ → Reply × Tree
 does now t (call.Command c) group = (reply.Errno (check_of t c), tree_after now t (check_of t c) c group)
 does now t (call.Query q) group = (answer_of t q, t)

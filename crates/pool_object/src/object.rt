@@ -2,17 +2,16 @@
 
 ghost use Rattle.std.specs.Prelude.{◌≡◌};
 ghost use Rattle.zp_tree.specs.WellFormed.{IsWellFormed};
-ghost use Rattle.pool_object.specs.Pool.{answer_of};
 
 use std::alloc::Global;
 use std::marker::Model;
 use txg_core::{Kind, SerialObject, Stated};
 use zc_io::NoMemory;
+use zcp_read::query;
 use zp_calls::{Call, Reply};
 use zp_changes::apply;
 use zp_checks::check;
-use zp_names::Query;
-use zp_tree::{Datasets, exists};
+use zp_tree::Datasets;
 
 /// A pool, over any kind of tree, and the moment at which its calls are done. The tree is well
 /// formed, also after a call that answered `NoMemory`.
@@ -50,14 +49,6 @@ impl<T: Datasets> Pool<T> {
         ensures well { IsWellFormed (T.tree self.now.tree) }
     {
         &self.tree
-    }
-}
-
-fn answer<T: Datasets>(tree: &T, query: &Query) -> Reply
-    ensures { result ≡ answer_of (T.tree tree.now) query.now }
-{
-    match query {
-        Query::Exists { name } => Reply::Exists(exists(tree, name)),
     }
 }
 
@@ -118,13 +109,13 @@ impl<T: Datasets> SerialObject for Pool<T> {
                 }
                 Ok(Reply::Errno(verdict))
             }
-            Call::Query(query) => Ok(answer(&self.tree, query)),
+            Call::Query(asked) => query(alloc, &self.tree, asked),
         }
     }
 
-    fn read(&self, _alloc: Global, call: &Call) -> Result<Reply, NoMemory> {
+    fn read(&self, alloc: Global, call: &Call) -> Result<Reply, NoMemory> {
         match call {
-            Call::Query(query) => Ok(answer(&self.tree, query)),
+            Call::Query(asked) => query(alloc, &self.tree, asked),
             Call::Command(_) => unreachable!(),
         }
     }

@@ -64,6 +64,6 @@ pub taken-is : {O W C R : Type 0} (means : O → Meaning W C R) (x : Opening O) 
 taken-is means x h s c r e = taken-decided (phase (origin_at means x) h s) c r s h e
 
 -- what is said of the parts is so of the recording
-pub taken-at : {O W C R : Type 0} (means : O → Meaning W C R) (x : Opening O) (h : List (Entry C)) (b : Bool) (a : Recording O C) → recording x h b ≡ a → (s : ℕ) (c : C) (r : R) (new : Recording O C) → new ≡ one_entry_more (recording x h b) (takes s c) → IsSynced (origin_at means x) h s c r
-    → (d : C) × (new ≡ one_entry_more a (takes s d)) × IsSynced (origin_at means a.opening) a.history s d r
-taken-at {O = O} {C = C} means x h b a is s c r new e i = subst (λ (z : Recording O C). (d : C) × (new ≡ one_entry_more z (takes s d)) × IsSynced (origin_at means z.opening) z.history s d r) is (c, e, i)
+pub taken-at : {O W C R : Type 0} (means : O → Meaning W C R) (x : Opening O) (h : List (Entry C)) (b : Bool) (a : Recording O C) → recording x h b ≡ a → (s : ℕ) (c : C) (r : R) (new : Recording O C) → new ≡ one_entry_more (recording x h b) (takes s c) → phase (origin_at means x) h s ≡ decided c r → IsSynced (origin_at means x) h s c r
+    → (d : C) × (new ≡ one_entry_more a (takes s d)) × (phase (origin_at means a.opening) a.history s ≡ decided d r) × IsSynced (origin_at means a.opening) a.history s d r
+taken-at {O = O} {C = C} means x h b a is s c r new e p i = subst (λ (z : Recording O C). (d : C) × (new ≡ one_entry_more z (takes s d)) × (phase (origin_at means z.opening) z.history s ≡ decided d r) × IsSynced (origin_at means z.opening) z.history s d r) is (c, e, p, i)

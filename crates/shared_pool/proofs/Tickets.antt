@@ -5,7 +5,7 @@ use Rattle.txg_core.specs.Openings.{origin_at}
 use Rattle.txg_core.specs.declared.origin.Opening.{Opening}
 use Rattle.txg_core.specs.History.{holds, checks, enqueues, open_group}
 use Rattle.txg_core.specs.Serial.{next, world}
-use Rattle.txg_core.specs.Sessions.{Phase, IsQueued}
+use Rattle.txg_core.specs.Sessions.{Phase, decided, phase, IsQueued}
 use Rattle.txg_core.specs.Laws.{IsSynced}
 use Rattle.txg_core.specs.declared.event.Entry.{Entry}
 use Rattle.txg_core.specs.declared.event.Step.TheVariants.{Hold, Check, Enqueue}
@@ -56,12 +56,13 @@ pub none-made : {W C R : Type 0} (o : Origin W C R) (k s : ℕ) (c : C) (front :
 none-made o k s c front legal = record { found = front; others = others-none k front; made = inl refl; legal = legal }
 
 -- the sync of a session's queued call is that of its ticket
-pub reply-by : {W C R : Type 0} (o : Origin W C R) (h : List (Entry C)) (t : Ticket) (c : C) (reply : R) → IsTicketOf o h t → IsSynced o h t.session c reply → IsReplyOf o h t c reply
-reply-by o h t c reply ticket i = record {
+pub reply-by : {W C R : Type 0} (o : Origin W C R) (h : List (Entry C)) (t : Ticket) (c : C) (reply : R) → IsTicketOf o h t → phase o h t.session ≡ decided c reply → IsSynced o h t.session c reply → IsReplyOf o h t c reply
+reply-by o h t c reply ticket kept i = record {
   newer = i.newer;
   older = i.older;
   is = i.is;
   waits = i.waits;
   number = i.same_call ∙ sym ticket.number;
+  kept = kept;
   replied = i.replied ∙ ap (λ (n : ℕ). (o.rules.does (world o i.older) c n).0) (i.same_group ∙ sym ticket.group_is);
 }

@@ -3,7 +3,7 @@ use Rattle.std.specs.Prelude.{◌≡◌, ◌<◌, Option, Some, None, Result, Ok
 use Rattle.txg_core.specs.Rules.{Origin}
 use Rattle.txg_core.specs.History.{syncs, takes, synced}
 use Rattle.txg_core.specs.Serial.{world, next}
-use Rattle.txg_core.specs.Sessions.{waiting, phase}
+use Rattle.txg_core.specs.Sessions.{waiting, decided, phase}
 use Rattle.txg_core.specs.declared.event.Entry.{Entry}
 use Rattle.shared_pool.specs.declared.answers.Ticket.{Ticket}
 
@@ -14,6 +14,7 @@ pub record IsReplyOf {W C R : Type 0} (o : Origin W C R) (h : List (Entry C)) (t
   pub is : h ≡ newer ++ syncs t.session c ∷ older
   pub waits : phase o older t.session ≡ waiting c
   pub number : next o older t.session ≡ t.call_no
+  pub kept : phase o h t.session ≡ decided c reply
   pub replied : reply ≡ (o.rules.does (world o older) c t.group).0
 
 -- the entry that a collect makes, by its answer: the take of the call that was synced; none, where the ticket's group isn't synced

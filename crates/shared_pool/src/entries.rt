@@ -4,7 +4,7 @@ ghost use Rattle.txg_core.specs.declared.object.Kind.{Kind as KindOf};
 ghost use Rattle.txg_core.specs.Openings.{origin_at};
 ghost use Rattle.txg_core.specs.History.{holds, checks, enqueues, reads, takes, open_group, synced, joined};
 ghost use Rattle.txg_core.specs.Serial.{world, next};
-ghost use Rattle.txg_core.specs.Sessions.{phase, IsQueued};
+ghost use Rattle.txg_core.specs.Sessions.{phase, decided, IsQueued};
 ghost use Rattle.txg_core.specs.Enabled.{Enabled};
 ghost use Rattle.txg_core.specs.Laws.{IsSynced};
 ghost use Rattle.txg_core.specs.Stands.{verdict_of};
@@ -42,7 +42,7 @@ impl<O: Stated + Drop> RecordedCore<O> {
     /// The reply to the session's queued call, or that it is too early.
     pub(crate) fn take(&mut self, session: u32) -> Result<O::Reply, NotYet>
         requires { IsQueued (phase (origin_at O.means self.old.opening) self.old.history session) }
-        ensures made { IfOk result (λ reply. (c : O.Call) × (self.new ≡ one_entry_more self.old (takes session c)) × IsSynced (origin_at O.means self.old.opening) self.old.history session c reply) }
+        ensures made { IfOk result (λ reply. (c : O.Call) × (self.new ≡ one_entry_more self.old (takes session c)) × (phase (origin_at O.means self.old.opening) self.old.history session ≡ decided c reply) × IsSynced (origin_at O.means self.old.opening) self.old.history session c reply) }
         ensures early { IsErr result ↔ (synced self.old.history < joined self.old.history session) }
         ensures same { OnErr result (self.new ≡ self.old) }
     {

@@ -8,7 +8,9 @@ use Rattle.zp_names.specs.NameParts.{is_pool, pool_of}
 use Rattle.zp_names.specs.declared.command.Command.{Command}
 use Rattle.zp_names.specs.declared.command.Command.TheVariants.{Create, CreateVolume, Snapshot, Clone, Bookmark, Mount, Unmount, Rollback, Stamp, RenameSnapshot, Destroy, Promote, Rename, Set, Inherit, Hold, Release}
 use Rattle.zp_names.specs.declared.command.Query.{Query}
-use Rattle.zp_names.specs.declared.command.Query.TheVariants.{Exists}
+use Rattle.zp_names.specs.declared.command.Query.TheVariants as query
+use Rattle.zp_names.specs.declared.list_kind.ListKind.{ListKind}
+use Rattle.zp_names.specs.declared.list_kind.ListKind.TheVariants as kind
 use Rattle.zp_calls.specs.declared.call.Call.{Call}
 use Rattle.zp_calls.specs.declared.call.Call.TheVariants as call
 use Rattle.zc_doc.specs.declared.error.DocError.{DocError}
@@ -30,6 +32,30 @@ pool_at d = any_name_at d >>= named_so is_pool
 abbrev pub name_at : List ℕ → Data → Result (List ℕ) DocError
 name_at pool d = any_name_at d >>= named_so (λ name. bytes_eq (pool_of name) pool)
 
+-- ---- kinds of lists
+
+-- the kinds by their words, as `zfs.list` of zfs-program(8) has them
+abbrev pub list_kinds : List (List ℕ × ListKind)
+list_kinds =
+    (codes "children", kind.Children)
+    ∷ (codes "snapshots", kind.Snapshots)
+    ∷ (codes "clones", kind.Clones)
+    ∷ (codes "bookmarks", kind.Bookmarks)
+    ∷ (codes "holds", kind.Holds)
+    ∷ (codes "user_properties", kind.UserProperties)
+    ∷ []
+
+-- the kind of this word; another word is refused
+abbrev pub kind_among : List (List ℕ × ListKind) → List ℕ → Result ListKind DocError
+kind_among [] word = Err (refusal.BadType [])
+kind_among (row ∷ rows) word = if bytes_eq word row.0 then Ok row.1 else kind_among rows word
+
+unfoldable pub kind_of_word : List ℕ → Result ListKind DocError
+kind_of_word word = kind_among list_kinds word
+
+abbrev pub list_kind_at : Data → Result ListKind DocError
+list_kind_at d = text_at d >>= kind_of_word
+
 -- ---- fields
 
 -- a field of a call: its name, and what stands there
@@ -50,10 +76,21 @@ a_number low high key = record { name = key; reads = present (number_at low high
 abbrev pub a_flag : List ℕ → CallField Bool
 a_flag key = record { name = key; reads = present_or false flag_at }
 
+abbrev pub a_list_kind : List ℕ → CallField ListKind
+a_list_kind key = record { name = key; reads = present list_kind_at }
+
+-- a text, empty where it is missing
+abbrev pub a_text_or_empty : List ℕ → CallField (List ℕ)
+a_text_or_empty key = record { name = key; reads = present_or [] text_at }
+
+-- a number in a range; the greatest where it is missing
+abbrev pub a_number_or_most : ℕ → ℕ → List ℕ → CallField ℕ
+a_number_or_most low high key = record { name = key; reads = present_or high (number_at low high) }
+
 abbrev pub field_in : {A : Type 0} → Data → CallField A → Result A DocError
 field_in d f = below_step f.name (f.reads (get f.name d))
 
--- what is made of an op's one, two or three fields, in their order; it has no members but these and `op`
+-- what is made of an op's one to four fields, in their order; it has no members but these and `op`
 abbrev pub one : {A C : Type 0} → (A → C) → CallField A → Data → Result C DocError
 one make a d = do
   _ ← only_members (is_among (codes "op" ∷ a.name ∷ [])) d
@@ -74,6 +111,15 @@ three make a b c d = do
   y ← field_in d b
   z ← field_in d c
   Ok (make x y z)
+
+abbrev pub four : {A B C D E : Type 0} → (A → B → C → D → E) → CallField A → CallField B → CallField C → CallField D → Data → Result E DocError
+four make a b c f d = do
+  _ ← only_members (is_among (codes "op" ∷ a.name ∷ b.name ∷ c.name ∷ f.name ∷ [])) d
+  x ← field_in d a
+  y ← field_in d b
+  z ← field_in d c
+  u ← field_in d f
+  Ok (make x y z u)
 
 -- ---- the ops: a row for each, with its fields in their order
 
@@ -103,7 +149,9 @@ commands pool =
 
 abbrev pub queries : List ℕ → Ops Query
 queries pool =
-    (codes "exists", one (λ name. Exists name) (a_name pool (codes "name")))
+    (codes "exists", one (λ name. query.Exists name) (a_name pool (codes "name")))
+    ∷ (codes "list", four (λ k name after limit. query.List k name after limit) (a_list_kind (codes "kind")) (a_name pool (codes "name")) (a_text_or_empty (codes "after")) (a_number_or_most 1 256 (codes "limit")))
+    ∷ (codes "get", two (λ name property. query.Get name property) (a_name pool (codes "name")) (a_text (codes "prop")))
     ∷ []
 
 -- what a row of this op reads; another op is refused
@@ -127,10 +175,14 @@ op_in d = members_at d >>= λ _. member text_at (codes "op") d
 abbrev pub command_at : List ℕ → Data → Result Command DocError
 command_at pool d = op_in d >>= λ op. command_of pool op d
 
+-- the ops that are queries
+abbrev pub is_query_op : List ℕ → Bool
+is_query_op op = is_among (codes "exists" ∷ codes "list" ∷ codes "get" ∷ []) op
+
 -- a query or a command, as it stands in a session
 abbrev pub call_of : List ℕ → List ℕ → Data → Result Call DocError
 call_of pool op d =
-    if bytes_eq op (codes "exists") then (query_of pool op d >>= λ q. Ok (call.Query q))
+    if is_query_op op then (query_of pool op d >>= λ q. Ok (call.Query q))
     else (command_of pool op d >>= λ c. Ok (call.Command c))
 
 abbrev pub call_at : List ℕ → Data → Result Call DocError

@@ -7,15 +7,16 @@ ghost use Rattle.zp_names.specs.NameParts.{is_pool};
 ghost use Rattle.zp_calls.specs.Names.{HasValidNames};
 ghost use Rattle.zp_calls.specs.declared.call.Call.TheVariants as call;
 ghost use Rattle.zc_doc.specs.Reading.{Gives, ok_map};
-ghost use Rattle.zc_doc.specs.Calls.{any_name_at, pool_at, name_at, a_name, one, command_of, query_of, op_in, command_at, call_of, call_at};
+ghost use Rattle.zc_doc.specs.Calls.{any_name_at, pool_at, name_at, a_name, one, command_of, op_in, command_at, call_of, call_at};
 
 use crate::DocError;
 use crate::error::Path;
+use crate::query::read_query;
 use crate::reading::{Flag, NumberIn, Reader, Text, member, member_or, only_members};
 use serde_json::Value;
 use std::alloc::Global;
 use zp_calls::Call;
-use zp_names::{BadName, Command, Name, Query};
+use zp_names::{BadName, Command, Name};
 
 /// Reads a valid name.
 fn read_name(alloc: Global, value: &Value) -> Result<Name, DocError>
@@ -141,7 +142,7 @@ fn read_call(alloc: Global, pool: &Name, op: &str, value: &Value) -> Result<Call
     ensures names { IfOk result HasValidNames }
 {
     match op {
-        "exists" => Ok(Call::Query(read_exists(alloc, pool, value)?)),
+        "exists" | "list" | "get" => Ok(Call::Query(read_query(alloc, pool, op, value)?)),
         _ => Ok(Call::Command(read_command(alloc, pool, op, value)?)),
     }
 }
@@ -317,17 +318,8 @@ fn read_release(alloc: Global, pool: &Name, value: &Value) -> Result<Command, Do
     Ok(Command::Release { name, tag })
 }
 
-#[tactic(auto, unfolding(crate::specs::Calls::query_of))]
-fn read_exists(alloc: Global, pool: &Name, value: &Value) -> Result<Query, DocError>
-    ensures gives { Gives result (query_of pool.now (codes "exists") (view value.now)) }
-    ensures names { IfOk result (λ q. HasValidNames (call.Query q)) }
-{
-    let name = only_name(alloc, pool, value)?;
-    Ok(Query::Exists { name })
-}
-
 /// Reads the name of a call that has no other field.
-fn only_name(alloc: Global, pool: &Name, value: &Value) -> Result<Name, DocError>
+pub(crate) fn only_name(alloc: Global, pool: &Name, value: &Value) -> Result<Name, DocError>
     ensures gives { Gives result (one (λ name. name) (a_name pool.now (codes "name")) (view value.now)) }
     ensures valid { IfOk result (λ name. is_valid_name name ≡ true) }
 {

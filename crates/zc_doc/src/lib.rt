@@ -7,6 +7,7 @@ mod document;
 mod error;
 mod event;
 mod program;
+mod query;
 mod reading;
 mod setup;
 

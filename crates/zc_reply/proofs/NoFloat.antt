@@ -18,7 +18,8 @@ use Rattle.txg_core.specs.declared.event.Event.{Event}
 use Rattle.txg_core.specs.declared.event.Event.TheVariants as event
 use Rattle.zp_calls.specs.declared.reply.Reply.{Reply}
 use Rattle.zp_calls.specs.declared.reply.Reply.TheVariants as reply
-use Rattle.zc_reply.specs.Journal.{array_of, event_data, verdict_data, reply_data}
+use Rattle.zc_reply.specs.Journal.{array_of, event_data}
+use Rattle.zc_reply.specs.Replies.{verdict_data, reply_data}
 use Rattle.zc_reply.specs.Records.{value_data, put_setting, hold_data, name_data, record_data}
 use Rattle.zc_reply.specs.Output.{output_data}
 
@@ -44,9 +45,25 @@ verdict_float : (errno : ℕ) (details : List (List ℕ)) → has_float (verdict
 verdict_float errno [] = refl
 verdict_float errno (d ∷ ds) = rw (items string (λ _. refl) (take 256 (d ∷ ds))) refl
 
+-- the value of a property
+value_float : (v : PropValue) → has_float (value_data v) ≡ false
+value_float (Number n) = refl
+value_float (Text t) = refl
+
+-- a text that may be missing, and a value
+text_float : (o : Option (List ℕ)) → has_float (option_map_or string o null) ≡ false
+text_float None = refl
+text_float (Some t) = refl
+
+given_float : (o : Option PropValue) → has_float (option_map_or value_data o null) ≡ false
+given_float None = refl
+given_float (Some v) = value_float v
+
 -- a reply
 reply_float : (r : Reply) → has_float (reply_data r) ≡ false
 reply_float (reply.Errno v) = verdict_float v.errno v.details
+reply_float (reply.Names names) = rw (items string (λ _. refl) names) refl
+reply_float (reply.Prop value source) = rw (text_float source, given_float value) refl
 reply_float (reply.Exists b) = refl
 
 -- an object with one more member, wherever it goes
@@ -62,11 +79,6 @@ put_float k d no_members here rest = rw here refl
 put_float k d (member l e ms) here rest =
     let parts = or_parts (has_float e) (members_have_float ms) rest in
     put_at (slice_cmp nat_cmp k l) k l d e ms here parts.0 parts.1 (put_float k d ms here parts.1)
-
--- the value of a property
-value_float : (v : PropValue) → has_float (value_data v) ≡ false
-value_float (Number n) = refl
-value_float (Text t) = refl
 
 -- the settings
 settings_float : (ms : Members) (ss : List Setting) → members_have_float ms ≡ false → members_have_float (fold put_setting ms ss) ≡ false

@@ -1,13 +1,11 @@
--- The journal and the replies as JSON (RFC 8259). Their form is this project's own.
-use Rattle.std.specs.Prelude.{ℕ, List, [], ◌∷◌, map, take, codes}
-use Rattle.serde_json.specs.Data.{Data, boolean, number, string, array, object, unsigned, item, no_items, member, no_members}
+-- The journal as JSON (RFC 8259). Its form is this project's own.
+use Rattle.std.specs.Prelude.{ℕ, List, map}
+use Rattle.serde_json.specs.Data.{Data, number, string, array, unsigned, item, no_items}
 use Rattle.serde_json.specs.View.{items_of}
 use Rattle.txg_core.specs.declared.event.Event.{Event}
 use Rattle.txg_core.specs.declared.event.EventParts.{EventParts}
 use Rattle.txg_core.specs.declared.event.EventParts.TheVariants as parts
 use Rattle.txg_core.specs.Events.{parts_of, step_word, transition_word}
-use Rattle.zp_calls.specs.declared.reply.Reply.{Reply}
-use Rattle.zp_calls.specs.declared.reply.Reply.TheVariants as reply
 
 -- a whole number
 abbrev pub whole : ℕ → Data
@@ -32,16 +30,3 @@ parts_data (parts.Transition transition) = group_event (transition_word transiti
 -- an event of the journal
 abbrev pub event_data : Event → Data
 event_data e = parts_data (parts_of e)
-
--- an error number, with the first 256 details where there are any
-abbrev pub verdict_data : ℕ → List (List ℕ) → Data
-verdict_data errno [] = object (member (codes "errno") (whole errno) no_members)
-verdict_data errno (detail ∷ details) =
-    object (member (codes "details") (array_of string (take 256 (detail ∷ details)))
-    (member (codes "errno") (whole errno) no_members))
-
--- a reply to a command or to a question
-abbrev pub reply_data : Reply → Data
-reply_data (reply.Errno verdict) = verdict_data verdict.errno verdict.details
-reply_data (reply.Exists there) =
-    object (member (codes "errno") (whole 0) (member (codes "exists") (boolean there) no_members))

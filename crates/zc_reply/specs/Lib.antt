@@ -1,4 +1,5 @@
 pub mod Journal
 pub mod Records
+pub mod Replies
 pub mod Output
 pub mod Laws

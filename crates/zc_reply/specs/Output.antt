@@ -5,7 +5,8 @@ use Rattle.serde_json.specs.Written.{compact_text}
 use Rattle.zp_tree.specs.declared.item.Item.{Item}
 use Rattle.txg_core.specs.declared.event.Event.{Event}
 use Rattle.zp_calls.specs.declared.reply.Reply.{Reply}
-use Rattle.zc_reply.specs.Journal.{whole, array_of, event_data, reply_data}
+use Rattle.zc_reply.specs.Journal.{whole, array_of, event_data}
+use Rattle.zc_reply.specs.Replies.{reply_data}
 use Rattle.zc_reply.specs.Records.{record_data}
 
 -- the whole, before it is a text

@@ -26,7 +26,7 @@ fn kind_text(kind: HeadKind) -> &'static str
     }
 }
 
-fn setting_value(alloc: Global, value: &PropValue) -> Result<Value, AllocError>
+pub(crate) fn setting_value(alloc: Global, value: &PropValue) -> Result<Value, AllocError>
     requires { IsValue value.now }
     ensures { IfOk result (λ v. view v ≡ value_data value.now) }
 {

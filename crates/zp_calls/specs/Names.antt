@@ -30,6 +30,8 @@ names_of_command (command.Release name tag) = name ∷ []
 
 abbrev pub names_of_query : Query → List (List ℕ)
 names_of_query (query.Exists name) = name ∷ []
+names_of_query (query.List kind name after limit) = name ∷ []
+names_of_query (query.Get name property) = name ∷ []
 
 abbrev pub names_of : Call → List (List ℕ)
 names_of (call.Command c) = names_of_command c

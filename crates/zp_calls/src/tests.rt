@@ -9,6 +9,8 @@ fn name_of(call: &Call) -> &str {
     match call {
         Call::Command(Command::Create { name }) => name.text(),
         Call::Query(Query::Exists { name }) => name.text(),
+        Call::Query(Query::List { name, .. }) => name.text(),
+        Call::Query(Query::Get { name, .. }) => name.text(),
         Call::Command(_) => "",
     }
 }

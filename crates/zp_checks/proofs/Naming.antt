@@ -1,5 +1,5 @@
 -- Names in byte order, as the keys of a set keep them.
-use Rattle.std.proofs.Common.{◌≡◌, ℕ, zero, suc, ◌-◌, ◌<◌, List, [], ◌∷◌, Bool, true, false, ◌||◌, ◌&&◌, map, drop, bytes_eq, Option, Some, None, Vec, Ordering, Less, Equal, Greater, nat_cmp, refl, sym, ap, ◌∙◌, arith, option_and_then}
+use Rattle.std.proofs.Common.{◌≡◌, ℕ, zero, suc, ◌-◌, ◌<◌, List, [], ◌∷◌, Bool, ◌||◌, ◌&&◌, map, drop, bytes_eq, Option, Some, None, Vec, Ordering, Less, Equal, Greater, nat_cmp, refl, sym, ap, ◌∙◌, arith, option_and_then}
 use Rattle.std.specs.Prelude.{slice_get}
 use Rattle.std.specs.List.{list_any, filter_map, cons_option}
 use Rattle.std.specs.Ordering.{match_ordering}
@@ -7,13 +7,13 @@ use Rattle.std.specs.Cmp.Lexicographic.{slice_cmp}
 use Rattle.std.specs.BTreeMap.{is_at}
 use Rattle.std.specs.BTreeSet.{insert_key}
 use Rattle.std.proofs.lemmas.Map.Text.{is_eq-slice_cmp}
-use Rattle.std.proofs.lemmas.Map.Lookups.{exact_bytes}
 use Rattle.zp_tree.specs.declared.item.Item.{Item}
 use mathlib.Core.Path.{fun_ext}
 use Rattle.zp_tree.specs.declared.item.Snapshot.{Snapshot}
 use Rattle.zp_tree.specs.declared.promotion.Promotion.{Promotion}
 use Rattle.zp_tree.specs.Tree.{Tree}
 use Rattle.zp_tree.specs.ShortNames.{short_name_if, in_byte_order, short_names}
+use Rattle.zp_tree.proofs.ByteOrder.{any-ordered}
 use Rattle.zp_tree.specs.Promote.{moves, is_owned_by, names_in_the_way}
 use Rattle.zp_checks.specs.Noting.{with_name}
 
@@ -32,30 +32,6 @@ named-more {Z} (x ∷ xs) k = by (slice_cmp nat_cmp k.items x.items) (named-more
     by Less e = refl
     by Equal e = refl
     by Greater e = ap (λ ys. x.items ∷ ys) e
-
--- whether one of the names passes, where one more is put
-any-inserted : (p : List ℕ → Bool) (names : List (List ℕ)) (x : List ℕ) → list_any p (insert_key (slice_cmp nat_cmp) names x) ≡ (p x || list_any p names)
-any-inserted p [] x = refl
-any-inserted p (y ∷ ys) x = by (slice_cmp nat_cmp x y) refl (any-inserted p ys x)
-  where
-    swap : (a b c : Bool) → (a || (b || c)) ≡ (b || (a || c))
-    swap true true c = refl
-    swap true false c = refl
-    swap false b c = refl
-
-    once : (a b c : Bool) → a ≡ b → (b || c) ≡ (a || (b || c))
-    once true b c e = ap (λ d. d || c) (sym e)
-    once false b c e = refl
-
-    by : (o : Ordering) → slice_cmp nat_cmp x y ≡ o → list_any p (insert_key (slice_cmp nat_cmp) ys x) ≡ (p x || list_any p ys) → list_any p (match_ordering o (x ∷ y ∷ ys) (y ∷ ys) (y ∷ insert_key (slice_cmp nat_cmp) ys x)) ≡ (p x || (p y || list_any p ys))
-    by Less f e = refl
-    by Equal f e = once (p x) (p y) (list_any p ys) (ap p (exact_bytes x y f))
-    by Greater f e = ap (λ b. p y || b) e ∙ swap (p y) (p x) (list_any p ys)
-
--- putting names in order leaves which there are
-any-ordered : (p : List ℕ → Bool) (names : List (List ℕ)) → list_any p (in_byte_order names) ≡ list_any p names
-any-ordered p [] = refl
-any-ordered p (x ∷ xs) = any-inserted p (in_byte_order xs) x ∙ ap (λ b. p x || b) (any-ordered p xs)
 
 -- the names of the records from a place on, with the one that is there
 from-place : (f : Item → Option (List ℕ)) (rs : List Item) (k : ℕ) → in_byte_order (filter_map f (drop k rs)) ≡ with_name (in_byte_order (filter_map f (drop (suc k) rs))) (option_and_then f (slice_get rs k))

@@ -3,7 +3,7 @@ mod Examples
 mod FirstFaults
 mod Heads
 pub mod JoinedNames
-mod Law
+pub mod Law
 pub mod Marks
 pub mod MovedNames
 pub mod Moving

@@ -2,7 +2,7 @@
 
 ghost use Rattle.std.specs.Prelude.{◌≡◌, IfOk};
 
-use crate::{Bytes, Name};
+use crate::{Bytes, ListKind, Name};
 use std::alloc::Global;
 use zc_io::NoMemory;
 
@@ -97,7 +97,22 @@ pub enum Command {
 #[derive(Debug, Drop)]
 pub enum Query {
     /// Whether there is a dataset of this name, as `zfs.exists` of zfs-program(8) tells.
-    Exists { name: Name },
+    Exists {
+        name: Name,
+    },
+    /// The names that stand in a relation to this dataset, as `zfs.list` of zfs-program(8) gives them: those above a text
+    /// by bytes, and of these so many.
+    List {
+        kind: ListKind,
+        name: Name,
+        after: Bytes,
+        limit: u64,
+    },
+    /// The value of a property of this dataset, with where it comes from: `zfs.get_prop` of zfs-program(8).
+    Get {
+        name: Name,
+        prop: Bytes,
+    },
 }
 
 impl Command {
@@ -182,6 +197,21 @@ impl Query {
         match self {
             Query::Exists { name } => Ok(Query::Exists {
                 name: name.copy(alloc)?,
+            }),
+            Query::List {
+                kind,
+                name,
+                after,
+                limit,
+            } => Ok(Query::List {
+                kind: *kind,
+                name: name.copy(alloc)?,
+                after: after.copy(alloc)?,
+                limit: *limit,
+            }),
+            Query::Get { name, prop } => Ok(Query::Get {
+                name: name.copy(alloc)?,
+                prop: prop.copy(alloc)?,
             }),
         }
     }

@@ -146,13 +146,22 @@ fn names_a_snapshot(rt: HostRuntime) -> Result<(), Fail> {
     Ok(())
 }
 
+/// The name that the query asks of.
+fn name_asked(query: &Query) -> &Name {
+    match query {
+        Query::Exists { name } => name,
+        Query::List { name, .. } => name,
+        Query::Get { name, .. } => name,
+    }
+}
+
 #[test]
 fn copies_a_query_and_a_verdict(rt: HostRuntime) -> Result<(), Fail> {
     let alloc = rt.alloc();
     let name = Name::read(alloc, b"tank/a")?;
-    let Query::Exists { name } = (Query::Exists { name }).copy(alloc)?;
+    let query = (Query::Exists { name }).copy(alloc)?;
     let mut details = Vec::new(alloc);
-    details.push(Bytes::from_bytes(alloc, name.text().as_bytes())?)?;
+    details.push(Bytes::from_bytes(alloc, name_asked(&query).text().as_bytes())?)?;
     let mut verdict = Verdict::plain(alloc, errno::EEXIST);
     verdict.details = Texts::from_vec(details);
     let copy = verdict.copy(alloc)?;

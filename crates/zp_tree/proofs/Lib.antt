@@ -16,7 +16,10 @@ pub mod VerdictTexts
 pub mod Depending
 pub mod DestroyExamples
 mod PromoteExamples
+mod RenameExamples
+mod SettingExamples
 pub mod Passing
 pub mod Nearest
 mod InheritedExamples
 pub mod RecordNames
+pub mod ByteOrder

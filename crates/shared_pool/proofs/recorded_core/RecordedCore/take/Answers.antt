@@ -26,4 +26,4 @@ returns-clause-made g c = let k = c.self in let x = k.inside.opening.value in le
     let d = c.in_ok-done.ensures.reply _ h k.invariant in
     let is : c.after_take-history.result.value ≡ takes s d.0 ∷ h = c.after_take-history.ensures ∙ taken-is g.O.Stated.means x h s d.0 r d.1 in
     let kept : recording x c.after_take-history.result.value c.take.new.self.spent ≡ one_entry_more (recording x h k.inside.core.spent) (takes s d.0) = ap (λ l. recording x l c.take.new.self.spent) is ∙ ap (λ b. recording x (takes s d.0 ∷ h) b) c.take.ensures.spent in
-    taken-at g.O.Stated.means x h k.inside.core.spent c.args.self.now k.view_is s d.0 r (recording x c.after_take-history.result.value c.take.new.self.spent) kept (synced-by (origin_at g.O.Stated.means x) h s d.0 r k.invariant.legal d.1)
+    taken-at g.O.Stated.means x h k.inside.core.spent c.args.self.now k.view_is s d.0 r (recording x c.after_take-history.result.value c.take.new.self.spent) kept d.1 (synced-by (origin_at g.O.Stated.means x) h s d.0 r k.invariant.legal d.1)

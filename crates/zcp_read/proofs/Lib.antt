@@ -1,0 +1,5 @@
+pub mod Stepping
+pub mod NextNames
+pub mod Going
+pub mod Printable
+mod Examples

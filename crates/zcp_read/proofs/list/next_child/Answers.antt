@@ -1,0 +1,10 @@
+use Rattle.zp_tree.specs.Dependents.{is_child_of}
+use Rattle.zcp_read.specs.Lists.{names_where, IsNextName}
+use Rattle.zcp_read.proofs.NextNames.{ok-as, next_child}
+use Rattle.zcp_read.proofs.list.next_child.Goals as goal
+
+pub returns : goal.returns
+returns g c =
+    let t = g.T.Datasets.tree c.args.tree.now in
+    let next = next_child t c.args.head.now c.args.after.now c.heads_after.result c.requires.well c.requires.there c.heads_after.ensures in
+    ok-as c.name_of_found.result (IsNextName (names_where t.records (is_child_of c.args.head.now.name)) c.args.after.now) _ c.name_of_found.ensures next
