@@ -9,6 +9,8 @@ pub mod NewPoolLaw
 pub mod Clear
 pub mod Latest
 pub mod Coming
+pub mod FirstFound
+pub mod NextTags
 pub mod Sums
 pub mod Found
 pub mod Marking
@@ -23,3 +25,4 @@ pub mod Nearest
 mod InheritedExamples
 pub mod RecordNames
 pub mod ByteOrder
+pub mod MakingExamples

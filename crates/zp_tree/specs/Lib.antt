@@ -15,6 +15,8 @@ pub mod WriteStamp
 pub mod RenameSnapshot
 pub mod Rollback
 pub mod NextByName
+pub mod FirstByKey
+pub mod NextTag
 pub mod Dependents
 pub mod Destroy
 pub mod Holds

@@ -1,9 +1,12 @@
 //! User references on snapshots: zfs-hold(8).
 
-ghost use Rattle.std.specs.Prelude.{◌≡◌, IfOk};
+ghost use Rattle.std.specs.Prelude.{◌≡◌, IfOk, option_map};
+ghost use Rattle.zp_tree.specs.FirstByKey.{FirstBy, first_of};
 ghost use Rattle.zp_tree.specs.Holds.{is_tag, is_tagged, has_tag, holds_without};
+ghost use Rattle.zp_tree.specs.NextTag.{holds_at, tag_of, is_tag_above, tag_and_moment, IsNextTag};
 
-use crate::{Hold, Holds, Snapshot};
+use crate::next_by_name::is_above;
+use crate::{Datasets, Hold, Holds, Item, Snapshot};
 use std::alloc::Global;
 use zc_io::NoMemory;
 use zp_names::Sequence;
@@ -47,4 +50,56 @@ pub fn holds_without(alloc: Global, holds: &[Hold], tag: &[u8]) -> Result<Holds,
         }
     }
     Ok(Sequence::from_vec(left))
+}
+
+/// The hold, where its tag is above a text and comes before that of the one that was found.
+fn better<'a>(found: Option<&'a Hold>, after: &[u8], hold: &'a Hold) -> Option<&'a Hold>
+    ensures { option_map (λ h. h.now) result ≡ first_of tag_of (is_tag_above after.now hold.now) (option_map (λ h. h.now) found.entry) hold.now }
+{
+    if !is_above(hold.tag.as_slice(), after) {
+        return found;
+    }
+    match found {
+        Some(old) if !is_above(old.tag.as_slice(), hold.tag.as_slice()) => Some(old),
+        _ => Some(hold),
+    }
+}
+
+/// The hold whose tag comes first above a text, by bytes.
+fn first_by_tag<'a>(holds: &'a [Hold], after: &[u8]) -> Option<&'a Hold>
+    ensures { FirstBy tag_of holds.now (is_tag_above after.now) (option_map (λ h. h.now) result) }
+{
+    let mut found = None;
+    for hold in holds {
+        found = better(found, after, hold);
+    }
+    found
+}
+
+fn tag_and_moment(hold: Option<&Hold>) -> Option<(&[u8], u64)>
+    ensures { option_map (λ p. (p.0.now, p.1)) result ≡ option_map tag_and_moment (option_map (λ h. h.now) hold.entry) }
+{
+    match hold {
+        Some(hold) => Some((hold.tag.as_slice(), hold.at)),
+        None => None,
+    }
+}
+
+/// Of the user references on the snapshot with this id, the tag that comes first above a text, by bytes, with the moment
+/// in seconds at which it was placed: zfs-holds(8). None where no tag is above it, and where there is no such snapshot.
+#[tactic(auto, using(crate::proofs::NextTags::told_next, crate::proofs::NextTags::none_held))]
+pub fn holds_after<'a, T: Datasets>(
+    tree: &'a T,
+    snapshot: u64,
+    after: &[u8],
+) -> Option<(&'a [u8], u64)>
+    ensures { IsNextTag (holds_at (T.tree tree.now).records snapshot) after.now (option_map (λ p. (p.0.now, p.1)) result) }
+{
+    match tree.item(snapshot) {
+        Some(Item::Snap(snapshot)) => {
+            let first = first_by_tag(snapshot.holds.as_slice(), after);
+            tag_and_moment(first)
+        }
+        _ => None,
+    }
 }

@@ -16,7 +16,7 @@ mod promotion;
 pub use datasets::Datasets;
 pub use dependents::{has_children, has_clones, has_snapshots, is_held};
 pub use effective::Effective;
-pub use holds::{has_tag, holds_without, is_tag};
+pub use holds::{has_tag, holds_after, holds_without, is_tag};
 pub use item::{Bookmark, Head, HeadKind, Hold, Holds, Item, PointInTime, Snapshot};
 pub use lookup::{exists, is_full, is_readonly, named, point_named, rollback_source};
 pub use plain::PlainTree;

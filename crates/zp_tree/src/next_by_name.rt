@@ -49,7 +49,7 @@ pub(crate) struct Bookmarks<'a> {
     pub(crate) after: &'a [u8],
 }
 
-fn is_above(text: &[u8], after: &[u8]) -> bool
+pub(crate) fn is_above(text: &[u8], after: &[u8]) -> bool
     ensures { result ≡ is_above text.now after.now }
 {
     match text.cmp(after) {
