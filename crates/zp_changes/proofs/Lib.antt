@@ -30,3 +30,4 @@ pub mod SettingsLaw
 pub mod SettingEffects
 pub mod HoldLaw
 pub mod ReleaseLaw
+pub mod DeferredGo

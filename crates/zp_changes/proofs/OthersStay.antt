@@ -124,12 +124,12 @@ other-id t name q r i w f there other same =
 removed-stays : (t : Tree) (j i : ℕ) (r : Item) → Rises 0 t.records t.next → at t.records i ≡ Some r → (i ≡ j → ⊥) → at (removed t j).records i ≡ Some r
 removed-stays t j i r rises there apart = ap (λ (look : ℕ → Option Item). look i) (look-without t.next t.records j rises) ∙ edit-other (at t.records) j None i apart ∙ there
 
-left-stays : (t : Tree) (owner i : ℕ) (r : Item) → Rises 0 t.records t.next → at t.records i ≡ Some r → is_bookmark_of owner r ≡ false → (i ≡ owner → ⊥) → at (without_head t owner).records i ≡ Some r
+pub left-stays : (t : Tree) (owner i : ℕ) (r : Item) → Rises 0 t.records t.next → at t.records i ≡ Some r → is_bookmark_of owner r ≡ false → (i ≡ owner → ⊥) → at (without_head t owner).records i ≡ Some r
 left-stays t owner i r rises there other apart =
     removed-stays (without_bookmarks t owner) owner i r (fewer-marks t owner rises).rises
     (look-left t owner i rises ∙ ap (passing (stays owner)) there ∙ ap (λ b. cond (not b) (Some r) None) other) apart
 
-released-stays : (u : Tree) (o i : ℕ) (r : Item) → Rises 0 u.records u.next → at u.records i ≡ Some r → (nat_eq o (id_of r) && option_map_or (λ (s : Snapshot). s.deferred) (as_snapshot r) false) ≡ false → at (released u o).records i ≡ Some r
+pub released-stays : (u : Tree) (o i : ℕ) (r : Item) → Rises 0 u.records u.next → at u.records i ≡ Some r → (nat_eq o (id_of r) && option_map_or (λ (s : Snapshot). s.deferred) (as_snapshot r) false) ≡ false → at (released u o).records i ≡ Some r
 released-stays u o i r rises there other = go (snapshot_at u o) refl
   where
     kept : (s : Snapshot) → snapshot_at u o ≡ Some s → i ≡ o → is_released u s ≡ false
@@ -155,7 +155,7 @@ or-parts : (b c : Bool) → (b || c) ≡ false → (b ≡ false) × (c ≡ false
 or-parts true c e = cc
 or-parts false c e = (refl, e)
 
-destroyed-stays : (f : Form) (t : Tree) (name : List ℕ) (defer : Bool) (i : ℕ) (r : Item) → IsWellFormed t → at t.records i ≡ Some r → goes f t name r ≡ false → at (destroyed f t name defer).records i ≡ Some r
+pub destroyed-stays : (f : Form) (t : Tree) (name : List ℕ) (defer : Bool) (i : ℕ) (r : Item) → IsWellFormed t → at t.records i ≡ Some r → goes f t name r ≡ false → at (destroyed f t name defer).records i ≡ Some r
 destroyed-stays form.Snap t name defer i r w there other = go (snapshot_named t name) refl
   where
     go : (o : Option Snapshot) → snapshot_named t name ≡ o → at (option_map_or (snapshot_destroyed t defer) o t).records i ≡ Some r

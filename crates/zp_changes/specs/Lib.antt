@@ -3,3 +3,4 @@ pub mod PromotionLaws
 pub mod Renaming
 pub mod RenameLaws
 pub mod PropertyLaws
+pub mod Deferral

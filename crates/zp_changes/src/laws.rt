@@ -13,6 +13,7 @@ ghost use Rattle.zp_tree.specs.Promote.{promote_check, promote_change};
 ghost use Rattle.zp_tree.specs.Rename.{rename_check, rename_change};
 ghost use Rattle.zp_changes.specs.PromotionLaws.{origin_owner, OwnAreYounger};
 ghost use Rattle.zp_changes.specs.RenameLaws.{NamesFit};
+ghost use Rattle.zp_changes.specs.Deferral.{DeferredGoWithTheLast};
 
 /// A promotion leaves which ids there are, their order, and the id that the next record takes.
 pub fn promotion_keeps_ids()
@@ -47,4 +48,9 @@ pub fn rename_there_and_back()
     ensures passes { (t : Tree) (name to : List ℕ) → IsWellFormed t → is_valid_name to ≡ true → rename_check t name to ≡ passed →
         NamesFit t name → rename_check (rename_change t name to) to name ≡ passed }
     ensures back { (t : Tree) (name to : List ℕ) → IsWellFormed t → rename_check t name to ≡ passed → rename_change (rename_change t name to) to name ≡ t }
+{}
+
+/// A deferred snapshot is gone after a command exactly where that took the last of its holds and clones.
+pub fn deferred_snapshot_goes_with_the_last()
+    ensures { DeferredGoWithTheLast }
 {}
