@@ -6,7 +6,7 @@ ghost use Rattle.zp_calls.specs.Names.{HasValidNames};
 ghost use Rattle.serde_json.specs.View.{view};
 ghost use Rattle.zc_doc.specs.Reading.{Gives};
 ghost use Rattle.zc_doc.specs.Programs.{AreNamed};
-ghost use Rattle.zc_doc.specs.Document.{schedule_in, document_at, document_of, GivesContents, most_calls};
+ghost use Rattle.zc_doc.specs.Document.{schedule_in, document_at, document_of, GivesContents, most_calls, most_sessions};
 
 use crate::call::{CallIn, CommandIn, PoolName};
 use crate::event::EventOf;
@@ -67,6 +67,7 @@ pub fn read_document(alloc: Global, bytes: &[u8], need: Need) -> Result<Document
     // What is so of every document.
     ensures well { IfOk result (λ document. IsWellFormed document.tree.tree) }
     ensures programs { IfOk result (λ document. AreNamed document.programs) }
+    ensures few { IfOk result (λ document. length document.sessions ≤ most_sessions) }
     ensures calls { IfOk result (λ document. All (λ calls. length calls ≤ most_calls) document.sessions) }
     ensures names { IfOk result (λ document. All (All HasValidNames) document.sessions) }
 {
@@ -107,6 +108,7 @@ fn read_members(alloc: Global, value: &Value, need: Need) -> Result<Document, Do
     ensures document { GivesContents result (document_at need (view value.now)) }
     ensures well { IfOk result (λ document. IsWellFormed document.tree.tree) }
     ensures programs { IfOk result (λ document. AreNamed document.programs) }
+    ensures few { IfOk result (λ document. length document.sessions ≤ most_sessions) }
     ensures calls { IfOk result (λ document. All (λ calls. length calls ≤ most_calls) document.sessions) }
     ensures names { IfOk result (λ document. All (All HasValidNames) document.sessions) }
 {
