@@ -13,3 +13,4 @@ mod words;
 
 pub use status::Status;
 pub use top_call::offline;
+pub use words::Asked;

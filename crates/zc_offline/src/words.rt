@@ -8,7 +8,7 @@ use zc_doc::Need;
 
 /// What the words ask for.
 #[derive(Debug, PartialEq, Eq, Drop)]
-pub(crate) enum Asked {
+pub enum Asked {
     /// The schedule of a document is done.
     Replay,
     /// The channel programs of a document are loaded.

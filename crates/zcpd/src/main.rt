@@ -1,11 +1,13 @@
 //! `zcpd`: the administrative core of one pool.
 #![tactic(auto)]
 
+use sessions::NoGate;
 use std::alloc::Global;
 use std::process::ExitCode;
 use std::{env, io};
 use zc_io::{StdSink, StdSource};
-use zc_offline::{Status, offline};
+use zc_offline::Status;
+use zc_online::zcpd;
 
 #[cfg(test)]
 mod tests;
@@ -32,7 +34,14 @@ fn main(rt: HostRuntime) -> ExitCode {
         Ok(words) => {
             let mut source = StdSource::new(rt.stdin());
             let mut sink = StdSink::new(rt.stdout());
-            offline(alloc, words.as_slice(), &mut source, &mut sink)
+            zcpd(
+                &rt,
+                alloc,
+                words.as_slice(),
+                &mut source,
+                &mut sink,
+                &NoGate,
+            )
         }
         Err(status) => status,
     };
