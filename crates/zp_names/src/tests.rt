@@ -146,12 +146,12 @@ fn names_a_snapshot(rt: HostRuntime) -> Result<(), Fail> {
     Ok(())
 }
 
-/// The name that the query asks of.
-fn name_asked(query: &Query) -> &Name {
-    match query {
-        Query::Exists { name } => name,
-        Query::List { name, .. } => name,
-        Query::Get { name, .. } => name,
+/// The name that a copy of a query asks of.
+fn name_of_a_copy(alloc: Global, name: Name) -> Result<Bytes, Fail> {
+    let query = Query::Exists { name };
+    match query.copy(alloc)? {
+        Query::Exists { name } => Ok(Bytes::from_bytes(alloc, name.text().as_bytes())?),
+        _ => Ok(Bytes::from_bytes(alloc, b"")?),
     }
 }
 
@@ -159,9 +159,8 @@ fn name_asked(query: &Query) -> &Name {
 fn copies_a_query_and_a_verdict(rt: HostRuntime) -> Result<(), Fail> {
     let alloc = rt.alloc();
     let name = Name::read(alloc, b"tank/a")?;
-    let query = (Query::Exists { name }).copy(alloc)?;
     let mut details = Vec::new(alloc);
-    details.push(Bytes::from_bytes(alloc, name_asked(&query).text().as_bytes())?)?;
+    details.push(name_of_a_copy(alloc, name)?)?;
     let mut verdict = Verdict::plain(alloc, errno::EEXIST);
     verdict.details = Texts::from_vec(details);
     let copy = verdict.copy(alloc)?;
