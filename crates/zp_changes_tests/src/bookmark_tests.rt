@@ -17,6 +17,14 @@ fn bookmark<T: Datasets>(alloc: Global, tree: &mut T, source: &str, text: &str) 
     run(alloc, tree, &Command::Bookmark { source, name })
 }
 
+fn snapshot<T: Datasets>(alloc: Global, tree: &mut T, text: &str) -> Result<u32, Fail>
+    requires { IsWellFormed (T.tree tree.old) }
+    ensures { IsWellFormed (T.tree tree.new) }
+{
+    let name = name(alloc, text)?;
+    run(alloc, tree, &Command::Snapshot { name })
+}
+
 /// The snapshot that a bookmark marks.
 fn source<T: Datasets>(tree: &T, id: u64) -> Option<u64> {
     match tree.item(id) {
@@ -31,10 +39,7 @@ fn bookmarks_outlive_their_snapshot(rt: HostRuntime) -> Result<(), Fail> {
     let pool = name(alloc, "rpool")?;
     assert!(rt; pool.is_pool());
     let mut tree = PlainTree::new(alloc, &pool)?;
-    let taken = Command::Snapshot {
-        name: name(alloc, "rpool@s")?,
-    };
-    assert_eq!(rt; run(alloc, &mut tree, &taken)?, 0);
+    assert_eq!(rt; snapshot(alloc, &mut tree, "rpool@s")?, 0);
     assert_eq!(rt; bookmark(alloc, &mut tree, "rpool@s", "rpool@t")?, 22);
     assert_eq!(rt; bookmark(alloc, &mut tree, "rpool", "rpool#s")?, 22);
     assert_eq!(rt; bookmark(alloc, &mut tree, "rpool@s", "rpool/a#s")?, 22);
