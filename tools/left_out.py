@@ -5,20 +5,25 @@ import sys
 from pool_listing import Refused
 
 SHOWN = 3
-LONGEST = 40
+LONGEST_VALUE = 40
+LONGEST = 120
 ALWAYS = "no document has: the content of datasets, the space that they take, their createtxg, guid and creation, and the moments of holds"
+
+
+def cut(text, longest):
+    return text if len(text) <= longest else text[:longest] + ".."
 
 
 def short_text(thing):
     """What is left out, in a few words."""
     text = thing["name"]
     if "property" in thing:
-        text = "%s=%s of %s" % (thing["property"], thing["value"] if len(thing["value"]) <= LONGEST else thing["value"][:LONGEST] + "..", text)
+        text = "%s=%s of %s" % (thing["property"], cut(thing["value"], LONGEST_VALUE), text)
     elif "tag" in thing:
         text = "%s of %s" % (thing["tag"], text)
     elif "origin" in thing:
         text = "%s of %s" % (thing["origin"], text)
-    return text.encode("ascii", "backslashreplace").decode().replace("\n", "\\n")
+    return cut(text, LONGEST).encode("ascii", "backslashreplace").decode().replace("\n", "\\n")
 
 
 class LeftOut:

@@ -20,10 +20,10 @@ class Head:
         self.below, self.snapshots = [], []
         self.made_as, self.is_in_place = None, False
         self.order = (listed.createtxg, listed.place)
-        self.turn = None
+        self.born_behind = self.turn = None
 
     def needs(self):
-        return [it for it in (self.parent, self.origin) if it is not None]
+        return [self.parent] if self.parent else []
 
 
 class Snapshot:
@@ -45,14 +45,35 @@ class Snapshot:
         return "%s@%s" % (self.head.made_as, self.short)
 
 
+def find_births(heads):
+    """What each head comes behind: the youngest of the origins that it and its origins stand on."""
+    for head in heads:
+        clones = {}
+        while head.born_behind is None and head.origin is not None:
+            if head in clones:
+                raise Refused("the origins of '%s' go in a circle" % head.name)
+            clones[head] = None
+            head = head.origin.head
+        if head.born_behind is None:
+            head.born_behind = (0, 0)
+        for clone in reversed(clones):
+            clone.born_behind = max(clone.origin.order, clone.origin.head.born_behind)
+
+
+def since(item):
+    """When an item can come at the earliest, beside what it waits for to be in its place."""
+    head = item if isinstance(item, Head) else item.head
+    return max(item.order, head.born_behind)
+
+
 def give_turns(items):
-    """Each item comes with the first of those that wait for it."""
-    for first in sorted(items, key=lambda it: it.order):
+    """Each item has the turn of the first of those that wait for it to be in its place."""
+    for first in sorted(items, key=since):
         waiting = [first]
         while waiting:
             item = waiting.pop()
             if item.turn is None:
-                item.turn = first.order
+                item.turn = since(first)
                 waiting += item.needs()
 
 
@@ -67,9 +88,13 @@ class Setup:
             head.snapshots.sort(key=lambda it: it.order)
             for before, after in zip(head.snapshots, head.snapshots[1:]):
                 before.after, after.before = after, before
+        find_births(heads)
         give_turns(heads + [it for head in heads for it in head.snapshots])
         self.make_root(heads[0])
-        self.make_rest()
+        for head in heads:
+            self.look_at(head)
+        while self.ready:
+            self.make(heapq.heappop(self.ready)[-1])
 
     def call(self, op, name, **fields):
         self.commands.append({"op": op, "name": name, **fields})
@@ -79,8 +104,6 @@ class Setup:
         root.made_as, root.is_in_place = root.name, True
         origins, head = [], root
         while head.origin is not None:
-            if head.origin in origins:
-                raise Refused("the origins of '%s' go in a circle" % head.name)
             origins.append(head.origin)
             head = head.origin.head
         for origin in reversed(origins):
@@ -101,19 +124,6 @@ class Setup:
         for snapshot in old:
             self.was_taken(snapshot)
         self.was_made(owner)
-
-    def make_rest(self):
-        """Everything else, the first by its turn of what nothing is missing for."""
-        while True:
-            while self.ready:
-                self.make(heapq.heappop(self.ready)[-1])
-            rest = [it for it in self.heads if it.made_as is None]
-            if not rest:
-                return
-            able = [it for it in rest if it.origin is None or it.origin.is_taken]
-            if not able:
-                raise Refused("the origins of '%s' go in a circle" % rest[0].name)
-            self.make_head(min(able, key=lambda it: (it.turn, it.order)))
 
     def make(self, item):
         """What came to be ready twice is made once."""
@@ -166,14 +176,15 @@ class Setup:
             self.look_at(clone)
 
     def look_at(self, head):
-        """A head that lacks nothing any more is ready."""
-        is_able = head.origin is None or head.origin.is_taken
-        if head.made_as is None and head.parent.is_in_place and is_able:
+        """A head that lacks nothing but its parent is ready."""
+        if head.made_as is None and (head.origin is None or head.origin.is_taken):
             self.add_ready(head)
 
     def add_ready(self, item):
+        """Its turn comes; of the same turn, those last that would come before their parent."""
+        is_early = isinstance(item, Head) and not item.parent.is_in_place
         self.pushed += 1
-        heapq.heappush(self.ready, (item.turn, item.order, self.pushed, item))
+        heapq.heappush(self.ready, (item.turn, is_early, item.order, self.pushed, item))
 
     def place(self, head):
         """The head gets its own name, and then all below it that were made and waited for it."""
@@ -184,6 +195,8 @@ class Setup:
                 self.call("rename", head.made_as, to=head.name)
                 head.made_as = head.name
             head.is_in_place = True
-            waiting += [it for it in head.below if it.made_as is not None]
             for it in head.below:
-                self.look_at(it)
+                if it.made_as is None:
+                    self.look_at(it)
+                else:
+                    waiting.append(it)
