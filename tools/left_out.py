@@ -28,7 +28,7 @@ def short_text(thing):
 
 class LeftOut:
     def __init__(self):
-        self.things = {}
+        self.things, self.notes = {}, []
 
     def add(self, reason, **thing):
         self.things.setdefault(reason, []).append(thing)
@@ -53,4 +53,5 @@ class LeftOut:
             shown = ", ".join(short_text(it) for it in things[:SHOWN])
             more = ", .." if len(things) > SHOWN else ""
             print("%7d  %s: %s%s" % (len(things), reason, shown, more), file=out)
-        print(ALWAYS, file=out)
+        for note in self.notes + [ALWAYS]:
+            print(note, file=out)
