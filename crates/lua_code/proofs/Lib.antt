@@ -1,0 +1,3 @@
+mod MetGotos
+mod Landing
+mod Refused

@@ -1,1 +1,3 @@
 pub mod CodeOf
+pub mod Gotos
+pub mod Targets

@@ -2,6 +2,7 @@
 //! nodes, and the look-ups of `lua_scope` stated against it.
 #![tactic(auto)]
 
+pub mod laws;
 mod lookups;
 
 pub use lookups::{captured, first_variable, is_captured, variable};
