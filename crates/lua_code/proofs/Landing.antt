@@ -12,7 +12,7 @@ use Rattle.lua_scope.specs.Labels.{labels_of, with_labels, inside_of, inside_wit
 use Rattle.lua_scope.specs.FirstLabels.{first_label}
 use Rattle.lua_scope.specs.Refusals.{target, landing}
 use Rattle.lua_scope.proofs.Targets.{first_pushed, locals_there, target_is, not_below}
-use Rattle.lua_code.specs.Gotos.{Enclosing, joined, stats_of}
+use Rattle.lua_code.specs.Gotos.{Enclosing, followed_by, stats_of}
 use Rattle.lua_code.specs.Targets.{Nowhere, no_block, lacking, Innermost, here, further_out, void_with, is_void, lies_outside, passes_local, Reaches, JumpsOver}
 use Rattle.lua_code.proofs.MetGotos.{inside_by, refused}
 
@@ -161,14 +161,14 @@ all_there x ts e = by (labelled_is x ts)
     by (unlabelled none first count) = count
     by (labelled part f from first locals within lower) = absurd (let no : None ≡ Some part = sym e ∙ from in cc)
 
-known : (x : List ℕ) (before : Trees) (after : List Tree) (p : Trees) → from_label x before ≡ Some p → locals_before x (joined before after) ≡ locals_before x before
+known : (x : List ℕ) (before : Trees) (after : List Tree) (p : Trees) → from_label x before ≡ Some p → locals_before x (followed_by before after) ≡ locals_before x before
 known x before [] p e = refl
 known x before (t ∷ ts) p e =
     known x (snoc before t) ts (snoc p t) (ap (λ (o : Option Trees). label_next x o t) e) ∙ ap (λ (o : Option Trees). locals_next x o (locals_before x before) t) e
 
 record Between (x : List ℕ) (before : Trees) (after : List Tree) : Type 0 where
-  least : locals_left before ≤ locals_before x (joined before after)
-  tells : nat_lt (locals_left before) (locals_before x (joined before after)) ≡ passes_local x after
+  least : locals_left before ≤ locals_before x (followed_by before after)
+  tells : nat_lt (locals_left before) (locals_before x (followed_by before after)) ≡ passes_local x after
 
 is_more : (n d l : ℕ) (p : Bool) → n + d ≤ l → nat_lt (n + d) l ≡ p → nat_lt n l ≡ (nat_lt 0 d || p)
 is_more n zero l p h e = ap (λ (m : ℕ). nat_lt m l) (let same : n ≡ n + 0 = omega arith in same) ∙ e
@@ -180,24 +180,24 @@ is_more n (suc d) l p h e =
 between_step : (x : List ℕ) (before : Trees) (t : Tree) (ts : List Tree) (c : Bool) → is_label x t ≡ c → from_label x before ≡ None
     → (from_label x (snoc before t) ≡ None → Between x (snoc before t) ts) → Between x before (t ∷ ts)
 between_step x before t ts true is e next =
-    let at_label : locals_before x (joined (snoc before t) ts) ≡ locals_before x (snoc before t) =
+    let at_label : locals_before x (followed_by (snoc before t) ts) ≡ locals_before x (snoc before t) =
     known x (snoc before t) ts (snoc none t) (ap (λ (o : Option Trees). label_next x o t) e ∙ ap (λ (c : Bool). if c then Some (snoc none t) else None) is) in
     let none_more : locals_before x (snoc before t) ≡ locals_before x before =
     ap (λ (o : Option Trees). locals_next x o (locals_before x before) t) e ∙ ap (λ (c : Bool). if c then locals_before x before else (locals_before x before + locals_declared t)) is in
-    let same : locals_before x (joined (snoc before t) ts) ≡ locals_left before = at_label ∙ (none_more ∙ all_there x before e) in
+    let same : locals_before x (followed_by (snoc before t) ts) ≡ locals_left before = at_label ∙ (none_more ∙ all_there x before e) in
     record {
       least = omega arith;
-      tells = not_below (locals_left before) (locals_before x (joined (snoc before t) ts)) (omega arith)
+      tells = not_below (locals_left before) (locals_before x (followed_by (snoc before t) ts)) (omega arith)
           ∙ sym (ap (λ (c : Bool). if c then false else (nat_lt 0 (locals_declared t) || passes_local x ts)) is);
     }
 between_step x before t ts false is e next =
     let b : Between x (snoc before t) ts = next (ap (λ (o : Option Trees). label_next x o t) e ∙ ap (λ (c : Bool). if c then Some (snoc none t) else None) is) in
     let declared : locals_at t ≡ locals_declared t = same_count t in
-    let least : locals_left before + locals_at t ≤ locals_before x (joined (snoc before t) ts) = b.least in
+    let least : locals_left before + locals_at t ≤ locals_before x (followed_by (snoc before t) ts) = b.least in
     record {
       least = omega arith;
-      tells = is_more (locals_left before) (locals_declared t) (locals_before x (joined (snoc before t) ts)) (passes_local x ts) (omega arith)
-          (ap (λ (k : ℕ). nat_lt (locals_left before + k) (locals_before x (joined (snoc before t) ts))) (sym (same_count t)) ∙ b.tells)
+      tells = is_more (locals_left before) (locals_declared t) (locals_before x (followed_by (snoc before t) ts)) (passes_local x ts) (omega arith)
+          (ap (λ (k : ℕ). nat_lt (locals_left before + k) (locals_before x (followed_by (snoc before t) ts))) (sym (same_count t)) ∙ b.tells)
           ∙ sym (ap (λ (c : Bool). if c then false else (nat_lt 0 (locals_declared t) || passes_local x ts)) is);
     }
 
@@ -241,9 +241,9 @@ jumps_over : (x : List ℕ) (e : Enclosing) (part : Trees) → lies_outside e.re
     → (o : Option Trees) → from_label x e.before ≡ o → JumpsOver x e part
 jumps_over x e part within less None none = record { within = within; behind = none; between = sym (between x e.before e.after none).tells ∙ less }
 jumps_over x e part within less (Some p) some =
-    let same : locals_before x (joined e.before e.after) ≡ locals_before x e.before = known x e.before e.after p some in
+    let same : locals_before x (followed_by e.before e.after) ≡ locals_before x e.before = known x e.before e.after p some in
     let most : locals_before x e.before ≤ locals_left e.before = few x e.before in
-    let more : locals_left e.before < locals_before x (joined e.before e.after) = more_than (locals_left e.before) (locals_before x (stats_of e)) less in
+    let more : locals_left e.before < locals_before x (followed_by e.before e.after) = more_than (locals_left e.before) (locals_before x (stats_of e)) less in
     absurd (omega arith)
 
 by_test : (l : ℕ) (x : List ℕ) (e : Enclosing) (es : List Enclosing) (part : Trees) → from_label x (stats_of e) ≡ Some part → lies_outside e.repeats part ≡ false

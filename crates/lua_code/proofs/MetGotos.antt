@@ -20,7 +20,7 @@ use Rattle.lua_scope.specs.Labels.{labels_of, inside_of, locals_at, locals_left,
 use Rattle.lua_scope.specs.Walk.{opens, walked, list_walked, stats_walked, body_walked, cases_walked, maybe_walked, fields_walked}
 use Rattle.lua_scope.specs.Scope.{ScopeState, scope, scope_opened, scope_closed, cut_to, entered, variables_from, first_variable}
 use Rattle.lua_scope.specs.Refusals.{target as target_at, landing, jump_in, jump}
-use Rattle.lua_code.specs.Gotos.{Enclosing, joined, stats_of, GotoThere, gotos, list_gotos, stats_gotos, body_gotos, cases_gotos, maybe_gotos, fields_gotos}
+use Rattle.lua_code.specs.Gotos.{Enclosing, followed_by, stats_of, GotoThere, gotos, list_gotos, stats_gotos, body_gotos, cases_gotos, maybe_gotos, fields_gotos}
 
 -- ---- what a goto is refused for, and what those are refused for that a walk has met
 
@@ -168,11 +168,11 @@ left : (vs more : List Variable) (n : ℕ) → length more ≡ n → length (vs 
 left vs more n e = let both : length (vs ++ more) ≡ length vs + length more = length-both vs more in omega arith
 
 at_block : (repeats : Bool) (before : Trees) (after : List Tree) (around : List Enclosing) {a b : List Occurrence} {f g : List GotoThere}
-    → Opened (block_kind repeats (joined before after)) (locals_left before) a b f g → At around a
+    → Opened (block_kind repeats (followed_by before after)) (locals_left before) a b f g → At around a
     → At (record { repeats = repeats; before = before; after = after } ∷ around) b
 at_block repeats before after around {a = a} o at = at_opened (record { repeats = repeats; before = before; after = after } ∷ around) o (λ l x.
-    ap (λ (n : ℕ). landing l n (target_at x (inside_by repeats (joined before after)) (labels_of (joined before after))) (jump l x (length (scope a).variables) (reverse (scope a).frames))) (left (scope a).variables o.more (locals_left before) o.count)
-    ∙ ap (landing l (locals_left before) (target_at x (inside_by repeats (joined before after)) (labels_of (joined before after)))) (at.jumps l x))
+    ap (λ (n : ℕ). landing l n (target_at x (inside_by repeats (followed_by before after)) (labels_of (followed_by before after))) (jump l x (length (scope a).variables) (reverse (scope a).frames))) (left (scope a).variables o.more (locals_left before) o.count)
+    ∙ ap (landing l (locals_left before) (target_at x (inside_by repeats (followed_by before after)) (labels_of (followed_by before after)))) (at.jumps l x))
 
 at_start : At [] []
 unfolding scope
@@ -340,12 +340,12 @@ mutual
       on test (block_stays b a (gotos a (cases_gotos a f cs) t) (walked (cases_walked h cs) t) (at_after at test))
 
   stats_opened : {d : ℕ} {x y : List Sign} {ts : Trees} {p : Bool} → Stats d x y ts p → (repeats : Bool) (after : List Tree) (a : List Enclosing) (f : List GotoThere) (h : List Occurrence) → At a h
-      → Opened (block_kind repeats (joined ts after)) (locals_left ts) h (stats_walked (opens repeats (joined ts after) ∷ h) ts) f (stats_gotos repeats after a f ts)
-  stats_opened no_stats repeats after a f h at = opened_now (block_kind repeats (joined none after)) h f
+      → Opened (block_kind repeats (followed_by ts after)) (locals_left ts) h (stats_walked (opens repeats (followed_by ts after) ∷ h) ts) f (stats_gotos repeats after a f ts)
+  stats_opened no_stats repeats after a f h at = opened_now (block_kind repeats (followed_by none after)) h f
   stats_opened (semicolon s) repeats after a f h at = stats_opened s repeats after a f h at
   stats_opened (stat {ts = ts} {t = t} s _ last) repeats after a f h at =
-      let before : Opened (block_kind repeats (joined ts (t ∷ after))) (locals_left ts) h (stats_walked (opens repeats (joined ts (t ∷ after)) ∷ h) ts) f (stats_gotos repeats (t ∷ after) a f ts) = stats_opened s repeats (t ∷ after) a f h at in
-      stat_opened last (record { repeats = repeats; before = ts; after = t ∷ after } ∷ a) (block_kind repeats (joined ts (t ∷ after))) h (opens repeats (joined ts (t ∷ after)) ∷ h) ts f (stats_gotos repeats (t ∷ after) a f ts)
+      let before : Opened (block_kind repeats (followed_by ts (t ∷ after))) (locals_left ts) h (stats_walked (opens repeats (followed_by ts (t ∷ after)) ∷ h) ts) f (stats_gotos repeats (t ∷ after) a f ts) = stats_opened s repeats (t ∷ after) a f h at in
+      stat_opened last (record { repeats = repeats; before = ts; after = t ∷ after } ∷ a) (block_kind repeats (followed_by ts (t ∷ after))) h (opens repeats (followed_by ts (t ∷ after)) ∷ h) ts f (stats_gotos repeats (t ∷ after) a f ts)
       (at_block repeats ts (t ∷ after) a before at) before
 
   returned_stays : {d : ℕ} {x y : List Sign} {es : Trees} → Returned d x y es → (a : List Enclosing) (f : List GotoThere) (h : List Occurrence) → Stays h (list_walked h es) f (list_gotos a f es)

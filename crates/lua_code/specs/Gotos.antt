@@ -8,13 +8,13 @@ pub record Enclosing : Type 0 where
   pub before : Trees
   pub after : List Tree
 
-abbrev pub joined : Trees → List Tree → Trees
-joined before [] = before
-joined before (t ∷ ts) = joined (snoc before t) ts
+abbrev pub followed_by : Trees → List Tree → Trees
+followed_by before [] = before
+followed_by before (t ∷ ts) = followed_by (snoc before t) ts
 
 -- all statements of the block
 abbrev pub stats_of : Enclosing → Trees
-stats_of e = joined e.before e.after
+stats_of e = followed_by e.before e.after
 
 pub record GotoThere : Type 0 where
   pub line : ℕ
