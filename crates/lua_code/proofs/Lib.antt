@@ -1,3 +1,5 @@
 mod MetGotos
 mod Landing
 mod Refused
+mod Parts
+mod OneCode

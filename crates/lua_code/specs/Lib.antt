@@ -1,3 +1,4 @@
 pub mod CodeOf
 pub mod Gotos
 pub mod Targets
+pub mod SameCode
