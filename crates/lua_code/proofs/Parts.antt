@@ -177,16 +177,19 @@ first_same x y xs ys e = cc
 rest_same : (x y : Tree) (xs ys : List Tree) → (x ∷ xs) ≡ (y ∷ ys) → xs ≡ ys
 rest_same x y xs ys e = cc
 
+alike_step : (f g : ℕ → Tree) (n : ℕ) (ns : List ℕ) (k : ℕ) (b : Bool) → (n == k) ≡ b → f n ≡ g n → (list_any (λ j. j == k) ns ≡ true → f k ≡ g k)
+    → list_any (λ j. j == k) (n ∷ ns) ≡ true → f k ≡ g k
+alike_step f g n ns k true is first later h = elim (eqb_tells n k) [
+  | inl same ↦ subst (λ (j : ℕ). f j ≡ g j) same.1 first
+  | inr apart ↦ absurd (let no : false ≡ true = sym apart.0 ∙ is in cc)
+]
+alike_step f g n ns k false is first later h = later (sym (ap (λ (c : Bool). c || list_any (λ j. j == k) ns) is) ∙ h)
+
 alike_at : (f g : ℕ → Tree) (ns : List ℕ) → map f ns ≡ map g ns → (k : ℕ) → list_any (λ j. j == k) ns ≡ true → f k ≡ g k
 alike_at f g [] e k h = absurd (let no : false ≡ true = h in cc)
-alike_at f g (n ∷ ns) e k h = by (n == k) refl
-  where
-    by : (b : Bool) → (n == k) ≡ b → f k ≡ g k
-    by true is = elim (eqb_tells n k) [
-      | inl same ↦ subst (λ (j : ℕ). f j ≡ g j) same.1 (first_same (f n) (g n) (map f ns) (map g ns) e)
-      | inr apart ↦ absurd (let no : false ≡ true = sym apart.0 ∙ is in cc)
-    ]
-    by false is = alike_at f g ns (rest_same (f n) (g n) (map f ns) (map g ns) e) k (sym (ap (λ (c : Bool). c || list_any (λ j. j == k) ns) is) ∙ h)
+alike_at f g (n ∷ ns) e k h =
+    alike_step f g n ns k (n == k) refl (first_same (f n) (g n) (map f ns) (map g ns) e)
+    (λ later. alike_at f g ns (rest_same (f n) (g n) (map f ns) (map g ns) e) k later) h
 
 -- a number that is counted once is there, and one that isn't has no node
 first_or_later : (i x : ℕ) (xs : List ℕ) (b : Bool) → (x == i) ≡ b → hits i (x ∷ xs) ≡ 1 → (hits i xs ≡ 1 → list_any (λ j. j == i) xs ≡ true) → list_any (λ j. j == i) (x ∷ xs) ≡ true
