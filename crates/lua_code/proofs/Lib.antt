@@ -3,3 +3,4 @@ mod Landing
 mod Refused
 mod Parts
 mod OneCode
+mod Examples
