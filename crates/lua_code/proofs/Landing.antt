@@ -38,21 +38,24 @@ one_more : (ls : List BlockLabel) (l : BlockLabel) → length (ls ++ l ∷ []) �
 one_more [] l = refl
 one_more (k ∷ ls) l = let e : length (ls ++ l ∷ []) ≡ length ls + 1 = one_more ls l in omega arith
 
+same_size : (n : ℕ) → n ≤ n
+same_size n = omega arith
+
 few_inside : (ts : Trees) → inside_of ts ≤ length (labels_of ts)
 unfolding labels_of inside_of
-few_inside none = omega arith
+few_inside none = same_size 0
 few_inside (snoc ts (Label n l y)) =
     let e : inside_of ts ≤ length (labels_of ts) = few_inside ts in
     let more : length (labels_of ts ++ record { name = y; locals = locals_left ts } ∷ []) ≡ length (labels_of ts) + 1 = one_more (labels_of ts) (record { name = y; locals = locals_left ts }) in
-    omega arith
-few_inside (snoc ts t) = omega arith
+    let still : inside_of ts ≤ length (labels_of ts ++ record { name = y; locals = locals_left ts } ∷ []) = omega arith in
+    still
+few_inside (snoc ts t) = same_size (length (labels_of ts))
 
 -- a further label, behind statements without one of this name
 first_here : (x : List ℕ) (ts : Trees) (n l : ℕ) (y : List ℕ) (b : Bool) → bytes_eq y x ≡ b
     → from_label x ts ≡ None → first_label x (labels_of ts) ≡ None → locals_before x ts ≡ locals_left ts → Labelled x (snoc ts (Label n l y))
 unfolding labels_of inside_of
 first_here x ts n l y true is none first count =
-    let new : FirstLabel = record { place = length (labels_of ts); locals = locals_left ts } in
     let more : length (labels_of ts ++ record { name = y; locals = locals_left ts } ∷ []) ≡ length (labels_of ts) + 1 = one_more (labels_of ts) (record { name = y; locals = locals_left ts }) in
     labelled (snoc none (Label n l y)) (record { place = length (labels_of ts); locals = locals_left ts })
     (ap (λ (o : Option Trees). label_next x o (Label n l y)) none ∙ ap (λ (c : Bool). if c then Some (snoc none (Label n l y)) else None) is)
@@ -62,7 +65,7 @@ first_here x ts n l y true is none first count =
     (sym (ap (λ (o : Option Trees). locals_next x o (locals_before x ts) (Label n l y)) none
     ∙ (ap (λ (c : Bool). if c then locals_before x ts else (locals_before x ts + 0)) is ∙ count)))
     (not_below (length (labels_of ts)) (inside_of ts) (few_inside ts))
-    (omega arith)
+    (let there : length (labels_of ts) < length (labels_of ts ++ record { name = y; locals = locals_left ts } ∷ []) = omega arith in there)
 first_here x ts n l y false is none first count = unlabelled
     (ap (λ (o : Option Trees). label_next x o (Label n l y)) none ∙ ap (λ (c : Bool). if c then Some (snoc none (Label n l y)) else None) is)
     (first_pushed x (labels_of ts) (record { name = y; locals = locals_left ts })
@@ -82,7 +85,7 @@ next_label x ts n l y (labelled part f from first locals inside within) =
     ∙ ap (λ (o : Option FirstLabel). option_or o (cond (bytes_eq y x) (Some (record { place = length (labels_of ts); locals = locals_left ts })) None)) first)
     (locals ∙ sym (ap (λ (o : Option Trees). locals_next x o (locals_before x ts) (Label n l y)) from))
     inside
-    (omega arith)
+    (let there : f.place < length (labels_of ts ++ record { name = y; locals = locals_left ts } ∷ []) = omega arith in there)
 
 -- a statement that is no label
 record IsOther (t : Tree) : Type 0 where
@@ -143,15 +146,15 @@ some_target x repeats ts part e = by (labelled_is x ts)
 -- ---- locals between a goto and its label
 
 few_test : (c : Bool) (b n m k : ℕ) → b ≤ n → m ≡ k → (if c then b else (b + m)) ≤ n + k
-few_test true b n m k h e = omega arith
-few_test false b n m k h e = omega arith
+few_test true b n m k h e = let less : b ≤ n + k = omega arith in less
+few_test false b n m k h e = let less : b + m ≤ n + k = omega arith in less
 
 few_next : (x : List ℕ) (o : Option Trees) (b n : ℕ) (t : Tree) → b ≤ n → locals_next x o b t ≤ n + locals_at t
-few_next x (Some p) b n t h = omega arith
+few_next x (Some p) b n t h = let less : b ≤ n + locals_at t = omega arith in less
 few_next x None b n t h = few_test (is_label x t) b n (locals_declared t) (locals_at t) h (sym (same_count t))
 
 few : (x : List ℕ) (ts : Trees) → locals_before x ts ≤ locals_left ts
-few x none = omega arith
+few x none = same_size 0
 few x (snoc ts t) = few_next x (from_label x ts) (locals_before x ts) (locals_left ts) t (few x ts)
 
 all_there : (x : List ℕ) (ts : Trees) → from_label x ts ≡ None → locals_before x ts ≡ locals_left ts
@@ -185,17 +188,19 @@ between_step x before t ts true is e next =
     let none_more : locals_before x (snoc before t) ≡ locals_before x before =
     ap (λ (o : Option Trees). locals_next x o (locals_before x before) t) e ∙ ap (λ (c : Bool). if c then locals_before x before else (locals_before x before + locals_declared t)) is in
     let same : locals_before x (followed_by (snoc before t) ts) ≡ locals_left before = at_label ∙ (none_more ∙ all_there x before e) in
+    let least : locals_left before ≤ locals_before x (followed_by (snoc before t) ts) = omega arith in
     record {
-      least = omega arith;
+      least = least;
       tells = not_below (locals_left before) (locals_before x (followed_by (snoc before t) ts)) (omega arith)
           ∙ sym (ap (λ (c : Bool). if c then false else (nat_lt 0 (locals_declared t) || passes_local x ts)) is);
     }
 between_step x before t ts false is e next =
     let b : Between x (snoc before t) ts = next (ap (λ (o : Option Trees). label_next x o t) e ∙ ap (λ (c : Bool). if c then Some (snoc none t) else None) is) in
     let declared : locals_at t ≡ locals_declared t = same_count t in
-    let least : locals_left before + locals_at t ≤ locals_before x (followed_by (snoc before t) ts) = b.least in
+    let more : locals_left before + locals_at t ≤ locals_before x (followed_by (snoc before t) ts) = b.least in
+    let least : locals_left before ≤ locals_before x (followed_by (snoc before t) ts) = omega arith in
     record {
-      least = omega arith;
+      least = least;
       tells = is_more (locals_left before) (locals_declared t) (locals_before x (followed_by (snoc before t) ts)) (passes_local x ts) (omega arith)
           (ap (λ (k : ℕ). nat_lt (locals_left before + k) (locals_before x (followed_by (snoc before t) ts))) (sym (same_count t)) ∙ b.tells)
           ∙ sym (ap (λ (c : Bool). if c then false else (nat_lt 0 (locals_declared t) || passes_local x ts)) is);
@@ -204,7 +209,8 @@ between_step x before t ts false is e next =
 between : (x : List ℕ) (before : Trees) (after : List Tree) → from_label x before ≡ None → Between x before after
 between x before [] e =
     let same : locals_before x before ≡ locals_left before = all_there x before e in
-    record { least = omega arith; tells = not_below (locals_left before) (locals_before x before) (omega arith) }
+    let least : locals_left before ≤ locals_before x before = omega arith in
+    record { least = least; tells = not_below (locals_left before) (locals_before x before) (omega arith) }
 between x before (t ∷ ts) e = between_step x before t ts (is_label x t) refl e (λ none. between x (snoc before t) ts none)
 
 -- ---- what a goto is refused for

@@ -95,9 +95,12 @@ found r is (occurrence.Vararg l ∷ h) e =
 -- ---- gotos by their places
 
 none_at : (gs : List GotoThere) (k : ℕ) (g : GotoThere) → NoRefusals (map told gs) → slice_get gs k ≡ Some g → told g ≡ None
-none_at [] k g clear there = absurd cc
-none_at (h ∷ gs) zero g clear there = let same : h ≡ g = cc in ap told (sym same) ∙ clear.0
-none_at (h ∷ gs) (suc k) g clear there = none_at gs k g clear.1 there
+none_at [] k g all there = absurd cc
+none_at (h ∷ gs) zero g all there =
+    let first : Some h ≡ Some g = there in
+    let same : h ≡ g = cc in
+    ap told (sym same) ∙ all.0
+none_at (h ∷ gs) (suc k) g all there = none_at gs k g all.1 there
 
 record ToldAt (gs : List GotoThere) (r : LoadError) : Type 0 where
   place : ℕ
@@ -107,7 +110,10 @@ record ToldAt (gs : List GotoThere) (r : LoadError) : Type 0 where
 
 told_at : (gs : List GotoThere) (r : LoadError) (k : ℕ) → slice_get (map told gs) k ≡ Some (Some r) → ToldAt gs r
 told_at [] r k e = absurd cc
-told_at (g ∷ gs) r zero e = record { place = 0; goto = g; there = refl; is = let same : told g ≡ Some r = cc in same }
+told_at (g ∷ gs) r zero e =
+    let first : Some (told g) ≡ Some (Some r) = e in
+    let same : told g ≡ Some r = cc in
+    record { place = 0; goto = g; there = refl; is = same }
 told_at (g ∷ gs) r (suc k) e = let later : ToldAt gs r = told_at gs r k e in record { place = suc later.place; goto = later.goto; there = later.there; is = later.is }
 
 -- ---- the laws
@@ -134,7 +140,7 @@ refused_goto text t r of is e =
 lacking_goto : (t : Tree) (l : ℕ) (a : ToldAt (gotos_of t) (NoLabel l)) → Verdict a.goto.line a.goto.label a.goto.around → HasGoto t l LacksLabel
 lacking_goto t l a (lacks h r) =
     let same : Some (NoLabel a.goto.line) ≡ Some (NoLabel l) = sym r ∙ a.is in
-    record { place = a.place; goto = a.goto; there = a.there; line = let line : a.goto.line ≡ l = cc in line; is = h }
+    record { place = a.place; goto = a.goto; there = a.there; line = let equal : a.goto.line ≡ l = cc in equal; is = h }
 lacking_goto t l a (lands h r) = absurd (let no : None ≡ Some (NoLabel l) = sym r ∙ a.is in cc)
 lacking_goto t l a (enters h r) = absurd (let no : Some (JumpsIntoLocal a.goto.line) ≡ Some (NoLabel l) = sym r ∙ a.is in cc)
 
@@ -148,7 +154,7 @@ entering_goto t l a (lacks h r) = absurd (let no : Some (NoLabel a.goto.line) �
 entering_goto t l a (lands h r) = absurd (let no : None ≡ Some (JumpsIntoLocal l) = sym r ∙ a.is in cc)
 entering_goto t l a (enters h r) =
     let same : Some (JumpsIntoLocal a.goto.line) ≡ Some (JumpsIntoLocal l) = sym r ∙ a.is in
-    record { place = a.place; goto = a.goto; there = a.there; line = let line : a.goto.line ≡ l = cc in line; is = h }
+    record { place = a.place; goto = a.goto; there = a.there; line = let equal : a.goto.line ≡ l = cc in equal; is = h }
 
 pub over_goto : (text : List ℕ) (t : Tree) (l : ℕ) → HasTokensOf text t → first_refusal (walked [] t) ≡ Some (JumpsIntoLocal l) → HasGoto t l EntersLocal
 over_goto text t l is e =
