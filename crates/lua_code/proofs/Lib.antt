@@ -1,6 +1,3 @@
-mod MetGotos
-mod Landing
-mod Refused
 mod Parts
 mod OneCode
 mod Examples

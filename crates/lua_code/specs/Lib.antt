@@ -1,4 +1,2 @@
 pub mod CodeOf
-pub mod Gotos
-pub mod Targets
 pub mod SameCode

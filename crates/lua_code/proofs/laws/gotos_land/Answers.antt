@@ -1,5 +1,0 @@
-use Rattle.lua_code.proofs.Refused.{goto_lands}
-use Rattle.lua_code.proofs.laws.gotos_land.Goals as goal
-
-pub returns : goal.returns
-returns c = λ text t k g loads there. goto_lands text t k g loads there
