@@ -1,6 +1,9 @@
 //! Laws of a text's code. Each function does nothing, and its contract is the law.
 
 ghost use Rattle.std.specs.Prelude.{◌≡◌, ℕ, List};
+ghost use Rattle.lua_ast.specs.Tree.{Trees};
+ghost use Rattle.lua_meaning.specs.Code.{from_label, locals_before};
+ghost use Rattle.lua_scope.specs.Jumps.{stats_from, locals_up_to};
 ghost use Rattle.lua_ast.specs.Decode.{ChunkNodes, Ordered, tree, own_number};
 ghost use Rattle.lua_ast.specs.Once.{IsEachOnce};
 ghost use Rattle.lua_ast.specs.Numbered.{IsNumbered};
@@ -24,3 +27,10 @@ pub fn one_code()
 {
     lua_scope::laws::one_numbering();
 }
+
+/// The labels of a block in the meaning are those of the scope rules: what stands from the first
+/// label of a name on, and how many locals the statements before it leave in scope.
+pub fn one_label()
+    ensures from { (x : List ℕ) (ts : Trees) → from_label x ts ≡ stats_from x ts }
+    ensures before { (x : List ℕ) (ts : Trees) → locals_before x ts ≡ locals_up_to x ts }
+{}
