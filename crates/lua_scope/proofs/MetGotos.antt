@@ -286,50 +286,50 @@ mutual
       → At a (stats_walked begun ts) → Opened k (locals_left ts) h (stats_walked begun ts) f g
       → Opened k (locals_left ts + locals_at t) h (stats_walked begun (snoc ts t)) f (gotos a g t)
   stat_opened (assign {vs = vs} p e) a k h begun ts f g at o =
-      opened_stays o (on (targets_stay p a g (stats_walked begun ts)) (exps_stay e a (list_gotos a g vs) (list_walked (stats_walked begun ts) vs)))
-  stat_opened (call_stat p _) a k h begun ts f g at o = opened_stays o (prefix_stays p a g (stats_walked begun ts))
-  stat_opened (label {i = i} {j = j}) a k h begun ts f g at o = opened_stays o (labelled (has_label j.slice ts) i.line (stats_walked begun ts) g)
-  stat_opened break a k h begun ts f g at o = opened_stays o (record { state_is = refl; same = λ e. e })
-  stat_opened (goto {i = i} {j = j}) a k h begun ts f g at o = opened_stays o (jumps_away a i.line j.slice (stats_walked begun ts) g at)
-  stat_opened (do_block _ b) a k h begun ts f g at o = opened_stays o (block_stays b a g (stats_walked begun ts) at)
+      opened_stays {n = locals_left ts} o (on (targets_stay p a g (stats_walked begun ts)) (exps_stay e a (list_gotos a g vs) (list_walked (stats_walked begun ts) vs)))
+  stat_opened (call_stat p _) a k h begun ts f g at o = opened_stays {n = locals_left ts} o (prefix_stays p a g (stats_walked begun ts))
+  stat_opened (label {i = i} {j = j}) a k h begun ts f g at o = opened_stays {n = locals_left ts} o (labelled (has_label j.slice ts) i.line (stats_walked begun ts) g)
+  stat_opened break a k h begun ts f g at o = opened_stays {n = locals_left ts} o (record { state_is = refl; same = λ e. e })
+  stat_opened (goto {i = i} {j = j}) a k h begun ts f g at o = opened_stays {n = locals_left ts} o (jumps_away a i.line j.slice (stats_walked begun ts) g at)
+  stat_opened (do_block _ b) a k h begun ts f g at o = opened_stays {n = locals_left ts} o (block_stays b a g (stats_walked begun ts) at)
   stat_opened (while {t = t} e _ b) a k h begun ts f g at o =
       let test : Stays (stats_walked begun ts) (walked (stats_walked begun ts) t) g (gotos a g t) = exp_stays e a g (stats_walked begun ts) in
       let loop : Opened kind.Loop 0 (walked (stats_walked begun ts) t) (occurrence.Open kind.Loop ∷ walked (stats_walked begun ts) t) (gotos a g t) (gotos a g t) = opened_now kind.Loop (walked (stats_walked begun ts) t) (gotos a g t) in
-      opened_stays o (on test (closes (opened_on loop (block_stays b a (gotos a g t) (occurrence.Open kind.Loop ∷ walked (stats_walked begun ts) t) (at_loop a loop (at_after at test))))))
+      opened_stays {n = locals_left ts} o (on test (closes (opened_on loop (block_stays b a (gotos a g t) (occurrence.Open kind.Loop ∷ walked (stats_walked begun ts) t) (at_loop a loop (at_after at test))))))
   stat_opened (repeat {b = b} _ p e) a k h begun ts f g at o =
       let loop : Opened kind.Loop 0 (stats_walked begun ts) (occurrence.Open kind.Loop ∷ stats_walked begun ts) g g = opened_now kind.Loop (stats_walked begun ts) g in
       let inner : BodyOpened (occurrence.Open kind.Loop ∷ stats_walked begun ts) (body_walked true (occurrence.Open kind.Loop ∷ stats_walked begun ts) b) g (body_gotos a g b) = body_opened p a g (occurrence.Open kind.Loop ∷ stats_walked begun ts) (at_loop a loop at) in
-      opened_stays o (closes (opened_on loop (closes (opened_on inner.opened (exp_stays e a (body_gotos a g b) (body_walked true (occurrence.Open kind.Loop ∷ stats_walked begun ts) b))))))
-  stat_opened (if_end cs) a k h begun ts f g at o = opened_stays o (conds_stay cs a g (stats_walked begun ts) at)
+      opened_stays {n = locals_left ts} o (closes (opened_on loop (closes (opened_on inner.opened (exp_stays e a (body_gotos a g b) (body_walked true (occurrence.Open kind.Loop ∷ stats_walked begun ts) b))))))
+  stat_opened (if_end cs) a k h begun ts f g at o = opened_stays {n = locals_left ts} o (conds_stay cs a g (stats_walked begun ts) at)
   stat_opened (if_else {cs = cs} p _ b) a k h begun ts f g at o =
       let tests : Stays (stats_walked begun ts) (cases_walked (stats_walked begun ts) cs) g (cases_gotos a g cs) = conds_stay p a g (stats_walked begun ts) at in
-      opened_stays o (on tests (block_stays b a (cases_gotos a g cs) (cases_walked (stats_walked begun ts) cs) (at_after at tests)))
+      opened_stays {n = locals_left ts} o (on tests (block_stays b a (cases_gotos a g cs) (cases_walked (stats_walked begun ts) cs) (at_after at tests)))
   stat_opened (num_for {j = j} {a = u} {e = v} p q _ b) a k h begun ts f g at o =
       let front : Stays (stats_walked begun ts) (walked (walked (occurrence.Declare 0 1 ∷ stats_walked begun ts) u) v) g (gotos a (gotos a g u) v) =
       on (declares 0 1 (stats_walked begun ts) g) (on (exp_stays p a g (occurrence.Declare 0 1 ∷ stats_walked begun ts)) (exp_stays q a (gotos a g u) (walked (occurrence.Declare 0 1 ∷ stats_walked begun ts) u))) in
-      opened_stays o (turns a 0 (j.slice ∷ []) at front (λ there.
+      opened_stays {n = locals_left ts} o (turns a 0 (j.slice ∷ []) at front (λ there.
       block_stays b a (gotos a (gotos a g u) v) (occurrence.Enter 0 (j.slice ∷ []) ∷ occurrence.Open kind.Loop ∷ walked (walked (occurrence.Declare 0 1 ∷ stats_walked begun ts) u) v) there))
   stat_opened (num_for_step {j = j} {a = u} {e = v} {s = w} p q r _ b) a k h begun ts f g at o =
       let front : Stays (stats_walked begun ts) (walked (walked (walked (occurrence.Declare 0 1 ∷ stats_walked begun ts) u) v) w) g (gotos a (gotos a (gotos a g u) v) w) =
       on (declares 0 1 (stats_walked begun ts) g) (on (exp_stays p a g (occurrence.Declare 0 1 ∷ stats_walked begun ts)) (on (exp_stays q a (gotos a g u) (walked (occurrence.Declare 0 1 ∷ stats_walked begun ts) u))
       (exp_stays r a (gotos a (gotos a g u) v) (walked (walked (occurrence.Declare 0 1 ∷ stats_walked begun ts) u) v)))) in
-      opened_stays o (turns a 0 (j.slice ∷ []) at front (λ there.
+      opened_stays {n = locals_left ts} o (turns a 0 (j.slice ∷ []) at front (λ there.
       block_stays b a (gotos a (gotos a (gotos a g u) v) w) (occurrence.Enter 0 (j.slice ∷ []) ∷ occurrence.Open kind.Loop ∷ walked (walked (walked (occurrence.Declare 0 1 ∷ stats_walked begun ts) u) v) w) there))
   stat_opened (gen_for {ns = ns} {ts = us} _ e _ b) a k h begun ts f g at o =
       let front : Stays (stats_walked begun ts) (list_walked (occurrence.Declare 0 (length ns) ∷ stats_walked begun ts) us) g (list_gotos a g us) =
       on (declares 0 (length ns) (stats_walked begun ts) g) (exps_stay e a g (occurrence.Declare 0 (length ns) ∷ stats_walked begun ts)) in
-      opened_stays o (turns a 0 ns at front (λ there.
+      opened_stays {n = locals_left ts} o (turns a 0 ns at front (λ there.
       block_stays b a (list_gotos a g us) (occurrence.Enter 0 ns ∷ occurrence.Open kind.Loop ∷ list_walked (occurrence.Declare 0 (length ns) ∷ stats_walked begun ts) us) there))
   stat_opened (named_function {t = t} _ p b) a k h begun ts f g at o =
-      opened_stays o (on (path_stays p a g (stats_walked begun ts)) (body_stays b a (gotos a g t) (walked (stats_walked begun ts) t)))
+      opened_stays {n = locals_left ts} o (on (path_stays p a g (stats_walked begun ts)) (body_stays b a (gotos a g t) (walked (stats_walked begun ts) t)))
   stat_opened (method_function {t = t} _ p b) a k h begun ts f g at o =
-      opened_stays o (on (path_stays p a g (stats_walked begun ts)) (body_stays b a (gotos a g t) (walked (stats_walked begun ts) t)))
+      opened_stays {n = locals_left ts} o (on (path_stays p a g (stats_walked begun ts)) (body_stays b a (gotos a g t) (walked (stats_walked begun ts) t)))
   stat_opened (local_function {l = l} _ b) a k h begun ts f g at o =
-      opened_on (opened_enters (opened_on o (declares 0 1 (stats_walked begun ts) g)) 0 (l.slice ∷ []))
+      opened_on (opened_enters {n = locals_left ts} (opened_on o (declares 0 1 (stats_walked begun ts) g)) 0 (l.slice ∷ []))
       (body_stays b a g (occurrence.Enter 0 (l.slice ∷ []) ∷ occurrence.Declare 0 1 ∷ stats_walked begun ts))
-  stat_opened (local {ns = ns} _) a k h begun ts f g at o = opened_enters (opened_on o (declares 0 (length ns) (stats_walked begun ts) g)) 0 ns
+  stat_opened (local {ns = ns} _) a k h begun ts f g at o = opened_enters {n = locals_left ts} (opened_on o (declares 0 (length ns) (stats_walked begun ts) g)) 0 ns
   stat_opened (local_exps {ns = ns} _ e) a k h begun ts f g at o =
-      opened_enters (opened_on (opened_on o (declares 0 (length ns) (stats_walked begun ts) g)) (exps_stay e a g (occurrence.Declare 0 (length ns) ∷ stats_walked begun ts))) 0 ns
+      opened_enters {n = locals_left ts} (opened_on (opened_on o (declares 0 (length ns) (stats_walked begun ts) g)) (exps_stay e a g (occurrence.Declare 0 (length ns) ∷ stats_walked begun ts))) 0 ns
 
   conds_stay : {d l : ℕ} {x y : List Sign} {cs : Cases} → Conds d l x y cs → (a : List Enclosing) (f : List GotoThere) (h : List Occurrence) → At a h → Stays h (cases_walked h cs) f (cases_gotos a f cs)
   conds_stay (first_cond {t = t} e _ b) a f h at =
