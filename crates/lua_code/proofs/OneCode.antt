@@ -1,5 +1,5 @@
 -- Chunks with one tree have one code.
-use Rattle.std.specs.Prelude.{◌≡◌, ℕ, ◌==◌, nat_lt, cond, Bool, true, false, List, [], length, Option, None, if◌then◌else◌, refl}
+use Rattle.std.specs.Prelude.{◌≡◌, ℕ, ◌==◌, nat_lt, Bool, true, false, [], length, None, if◌then◌else◌, refl}
 use Rattle.std.specs.List.{count_by}
 use Rattle.std.proofs.Common.{ap, ◌∙◌, sym, arith}
 use Rattle.lua_ast.specs.Tree.{Tree}
@@ -11,9 +11,9 @@ use Rattle.lua_scope.specs.Scope.{first_variable}
 use Rattle.lua_scope.specs.Variables.{variable_of, is_captured, captured_by}
 use Rattle.lua_code.specs.CodeOf.{code_of}
 use Rattle.lua_code.specs.SameCode.{SameCode}
-use Rattle.lua_code.proofs.Parts.{same_trees}
+use Rattle.lua_code.proofs.Parts.{one_if, same_trees}
 
-cond_same : (a b : Bool) → cond a 1 0 ≡ cond b 1 0 → a ≡ b
+cond_same : (a b : Bool) → one_if a ≡ one_if b → a ≡ b
 cond_same true true e = refl
 cond_same true false e = absurd (omega (arith, e))
 cond_same false true e = absurd (omega (arith, e))

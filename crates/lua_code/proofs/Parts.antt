@@ -205,7 +205,10 @@ counted i (x ∷ xs) e = first_or_later i x xs (x == i) refl e (counted i xs)
 not_less : (a b : ℕ) → nat_lt a b ≡ false → b ≤ a
 not_less a b e = grind (arith, nat_tests)
 
-cond_zero : (b : Bool) → cond b 1 0 ≡ 0 → b ≡ false
+abbrev pub one_if : Bool → ℕ
+one_if b = cond b 1 0
+
+cond_zero : (b : Bool) → one_if b ≡ 0 → b ≡ false
 cond_zero true e = absurd (omega (arith, e))
 cond_zero false e = refl
 
@@ -223,7 +226,7 @@ module _ (c d : ChunkNodes) (ordered : Ordered c.nodes) (also : Ordered d.nodes)
       (counted i (numbers_in (tree own_number c.nodes c.root)) (hits_count i (numbers_in (tree own_number c.nodes c.root)) ∙ (once i ∙ ap (λ (b : Bool). cond b 1 0) is)))
   by_count i false is =
       let none_here : count_by (λ j. j == i) (numbers_in (tree own_number c.nodes c.root)) ≡ 0 = once i ∙ ap (λ (b : Bool). cond b 1 0) is in
-      let none_there : cond (nat_lt i (length d.nodes)) 1 0 ≡ 0 = sym (as_well i) ∙ (ap (λ (u : Tree). count_by (λ j. j == i) (numbers_in u)) (sym same) ∙ none_here) in
+      let none_there : one_if (nat_lt i (length d.nodes)) ≡ 0 = sym (as_well i) ∙ (ap (λ (u : Tree). count_by (λ j. j == i) (numbers_in u)) (sym same) ∙ none_here) in
       tree_past own_number c.nodes i (not_less i (length c.nodes) is)
       ∙ sym (tree_past own_number d.nodes i (not_less i (length d.nodes) (cond_zero (nat_lt i (length d.nodes)) none_there)))
 

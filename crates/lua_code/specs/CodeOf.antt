@@ -1,5 +1,5 @@
 -- A text's code, by the scope rules: what its meaning reads of it (Lua 5.2 manual, 3.2, 3.4.10 and 3.5).
-use Rattle.std.specs.Prelude.{ℕ, List, [], length, nat_lt, if◌then◌else◌, None}
+use Rattle.std.specs.Prelude.{[], length, nat_lt, if◌then◌else◌, None}
 use Rattle.lua_ast.specs.Decode.{ChunkNodes, tree, own_number}
 use Rattle.lua_scope.specs.OfChunk.{occurrences_of}
 use Rattle.lua_scope.specs.Scope.{first_variable}
