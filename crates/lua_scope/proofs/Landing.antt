@@ -50,28 +50,28 @@ few_inside (snoc ts t) = same_size (length (labels_of ts))
 first_here : (x : List ℕ) (ts : Trees) (n l : ℕ) (y : List ℕ) (b : Bool) → bytes_eq y x ≡ b
     → stats_from x ts ≡ None → first_label x (labels_of ts) ≡ None → locals_up_to x ts ≡ locals_left ts → Labelled x (snoc ts (Label n l y))
 unfolding labels_of inside_of
-first_here x ts n l y true is none first count =
+first_here x ts n l y true is without first count =
     let more : length (labels_of ts ++ record { name = y; locals = locals_left ts } ∷ []) ≡ length (labels_of ts) + 1 = one_more (labels_of ts) (record { name = y; locals = locals_left ts }) in
     labelled (snoc none (Label n l y)) (record { place = length (labels_of ts); locals = locals_left ts })
-    (ap (λ (o : Option Trees). label_on x o (Label n l y)) none ∙ ap (λ (c : Bool). if c then Some (snoc none (Label n l y)) else None) is)
+    (ap (λ (o : Option Trees). label_on x o (Label n l y)) without ∙ ap (λ (c : Bool). if c then Some (snoc none (Label n l y)) else None) is)
     (first_pushed x (labels_of ts) (record { name = y; locals = locals_left ts })
     ∙ (ap (λ (o : Option FirstLabel). option_or o (cond (bytes_eq y x) (Some (record { place = length (labels_of ts); locals = locals_left ts })) None)) first
     ∙ ap (λ (c : Bool). option_or None (cond c (Some (record { place = length (labels_of ts); locals = locals_left ts })) None)) is))
-    (sym (ap (λ (o : Option Trees). locals_on x o (locals_up_to x ts) (Label n l y)) none
+    (sym (ap (λ (o : Option Trees). locals_on x o (locals_up_to x ts) (Label n l y)) without
     ∙ (ap (λ (c : Bool). if c then locals_up_to x ts else (locals_up_to x ts + 0)) is ∙ count)))
     (not_below (length (labels_of ts)) (inside_of ts) (few_inside ts))
     (let there : length (labels_of ts) < length (labels_of ts ++ record { name = y; locals = locals_left ts } ∷ []) = omega arith in there)
-first_here x ts n l y false is none first count = unlabelled
-    (ap (λ (o : Option Trees). label_on x o (Label n l y)) none ∙ ap (λ (c : Bool). if c then Some (snoc none (Label n l y)) else None) is)
+first_here x ts n l y false is without first count = unlabelled
+    (ap (λ (o : Option Trees). label_on x o (Label n l y)) without ∙ ap (λ (c : Bool). if c then Some (snoc none (Label n l y)) else None) is)
     (first_pushed x (labels_of ts) (record { name = y; locals = locals_left ts })
     ∙ (ap (λ (o : Option FirstLabel). option_or o (cond (bytes_eq y x) (Some (record { place = length (labels_of ts); locals = locals_left ts })) None)) first
     ∙ ap (λ (c : Bool). option_or None (cond c (Some (record { place = length (labels_of ts); locals = locals_left ts })) None)) is))
-    (ap (λ (o : Option Trees). locals_on x o (locals_up_to x ts) (Label n l y)) none
+    (ap (λ (o : Option Trees). locals_on x o (locals_up_to x ts) (Label n l y)) without
     ∙ (ap (λ (c : Bool). if c then locals_up_to x ts else (locals_up_to x ts + 0)) is ∙ ap (λ (k : ℕ). k + 0) count))
 
 next_label : (x : List ℕ) (ts : Trees) (n l : ℕ) (y : List ℕ) → Labelled x ts → Labelled x (snoc ts (Label n l y))
 unfolding labels_of inside_of
-next_label x ts n l y (unlabelled none first count) = first_here x ts n l y (bytes_eq y x) refl none first count
+next_label x ts n l y (unlabelled without first count) = first_here x ts n l y (bytes_eq y x) refl without first count
 next_label x ts n l y (labelled part f from first locals inside within) =
     let more : length (labels_of ts ++ record { name = y; locals = locals_left ts } ∷ []) ≡ length (labels_of ts) + 1 = one_more (labels_of ts) (record { name = y; locals = locals_left ts }) in
     labelled (snoc part (Label n l y)) f
@@ -91,10 +91,10 @@ record IsOther (t : Tree) : Type 0 where
 
 next_other : (x : List ℕ) (ts : Trees) (t : Tree) → IsOther t → Labelled x ts → Labelled x (snoc ts t)
 unfolding labels_of inside_of
-next_other x ts t o (unlabelled none first count) = unlabelled
-    (ap (λ (w : Option Trees). label_on x w t) none ∙ ap (λ (c : Bool). if c then Some (snoc none t) else None) (o.plain x))
+next_other x ts t o (unlabelled without first count) = unlabelled
+    (ap (λ (w : Option Trees). label_on x w t) without ∙ ap (λ (c : Bool). if c then Some (snoc none t) else None) (o.plain x))
     (ap (first_label x) (o.labels (labels_of ts) (locals_left ts)) ∙ first)
-    (ap (λ (w : Option Trees). locals_on x w (locals_up_to x ts) t) none
+    (ap (λ (w : Option Trees). locals_on x w (locals_up_to x ts) t) without
     ∙ (ap (λ (c : Bool). if c then locals_up_to x ts else (locals_up_to x ts + locals_at t)) (o.plain x)
     ∙ ap (λ (k : ℕ). k + locals_at t) count))
 next_other x ts t o (labelled part f from first locals inside within) = labelled (snoc part t) f
@@ -116,7 +116,7 @@ no_target : (x : List ℕ) (inside : ℕ) (ts : Trees) → stats_from x ts ≡ N
 no_target x inside ts e = by (labelled_is x ts)
   where
     by : Labelled x ts → target x inside (labels_of ts) ≡ None
-    by (unlabelled none first count) = target_is x inside (labels_of ts) ∙ ap (option_map (locals_there inside)) first
+    by (unlabelled without first count) = target_is x inside (labels_of ts) ∙ ap (option_map (locals_there inside)) first
     by (labelled part f from first locals within lower) = absurd (let no : None ≡ Some part = sym e ∙ from in cc)
 
 inside_or_outside : (repeats : Bool) (ts part : Trees) (f : FirstLabel) → nat_lt f.place (inside_of ts) ≡ not (is_void part) → f.place < length (labels_of ts)
@@ -129,7 +129,7 @@ some_target : (x : List ℕ) (repeats : Bool) (ts part : Trees) → stats_from x
 some_target x repeats ts part e = by (labelled_is x ts)
   where
     by : Labelled x ts → target x (inside_by repeats ts) (labels_of ts) ≡ Some (if not (lies_outside repeats part) then locals_up_to x ts else 0)
-    by (unlabelled none first count) = absurd (let no : None ≡ Some part = sym none ∙ e in cc)
+    by (unlabelled without first count) = absurd (let no : None ≡ Some part = sym without ∙ e in cc)
     by (labelled other f from first locals inside within) =
         let same : other ≡ part = inner other part (sym from ∙ e) in
         target_is x (inside_by repeats ts) (labels_of ts)
@@ -156,7 +156,7 @@ all_there : (x : List ℕ) (ts : Trees) → stats_from x ts ≡ None → locals_
 all_there x ts e = by (labelled_is x ts)
   where
     by : Labelled x ts → locals_up_to x ts ≡ locals_left ts
-    by (unlabelled none first count) = count
+    by (unlabelled without first count) = count
     by (labelled part f from first locals within lower) = absurd (let no : None ≡ Some part = sym e ∙ from in cc)
 
 known : (x : List ℕ) (before : Trees) (after : List Tree) (p : Trees) → stats_from x before ≡ Some p → locals_up_to x (followed_by before after) ≡ locals_up_to x before
@@ -205,12 +205,12 @@ between x before [] e =
     let same : locals_up_to x before ≡ locals_left before = all_there x before e in
     let least : locals_left before ≤ locals_up_to x before = omega arith in
     record { least = least; tells = not_below (locals_left before) (locals_up_to x before) (omega arith) }
-between x before (t ∷ ts) e = between_step x before t ts (is_label_of x t) refl e (λ none. between x (snoc before t) ts none)
+between x before (t ∷ ts) e = between_step x before t ts (is_label_of x t) refl e (λ without. between x (snoc before t) ts without)
 
 -- ---- what a goto is refused for
 
 refused_outside : (l : ℕ) (x : List ℕ) (e : Enclosing) (es : List Enclosing) → stats_from x (stats_of e) ≡ None → refused l x (e ∷ es) ≡ refused l x es
-refused_outside l x e es none = ap (λ (o : Option ℕ). landing l (locals_left e.before) o (refused l x es)) (no_target x (inside_by e.repeats (stats_of e)) (stats_of e) none)
+refused_outside l x e es without = ap (λ (o : Option ℕ). landing l (locals_left e.before) o (refused l x es)) (no_target x (inside_by e.repeats (stats_of e)) (stats_of e) without)
 
 abbrev test_of : ℕ → List ℕ → Enclosing → Bool → Option LoadError
 test_of l x e outside = if nat_lt (locals_left e.before) (if not outside then locals_up_to x (stats_of e) else 0) then Some (JumpsIntoLocal l) else None
@@ -226,9 +226,9 @@ pub data Verdict (l : ℕ) (x : List ℕ) (es : List Enclosing) : Type 0 where
   enters : Innermost x (JumpsOver x) es → refused l x es ≡ Some (JumpsIntoLocal l) → Verdict l x es
 
 further : (l : ℕ) (x : List ℕ) (e : Enclosing) (es : List Enclosing) → stats_from x (stats_of e) ≡ None → Verdict l x es → Verdict l x (e ∷ es)
-further l x e es none (lacks h r) = lacks (lacking none h) (refused_outside l x e es none ∙ r)
-further l x e es none (lands h r) = lands (further_out none h) (refused_outside l x e es none ∙ r)
-further l x e es none (enters h r) = enters (further_out none h) (refused_outside l x e es none ∙ r)
+further l x e es without (lacks h r) = lacks (lacking without h) (refused_outside l x e es without ∙ r)
+further l x e es without (lands h r) = lands (further_out without h) (refused_outside l x e es without ∙ r)
+further l x e es without (enters h r) = enters (further_out without h) (refused_outside l x e es without ∙ r)
 
 at_most : (a b : ℕ) → nat_lt a b ≡ false → b ≤ a
 at_most a b e = grind (arith, nat_tests)
@@ -239,7 +239,7 @@ more_than a b e = grind (arith, nat_tests)
 -- the goto stands before the label, and a local is declared between
 jumps_over : (x : List ℕ) (e : Enclosing) (part : Trees) → lies_outside e.repeats part ≡ false → nat_lt (locals_left e.before) (locals_up_to x (stats_of e)) ≡ true
     → (o : Option Trees) → stats_from x e.before ≡ o → JumpsOver x e part
-jumps_over x e part within less None none = record { within = within; behind = none; between = sym (between x e.before e.after none).tells ∙ less }
+jumps_over x e part within less None without = record { within = within; behind = without; between = sym (between x e.before e.after without).tells ∙ less }
 jumps_over x e part within less (Some p) some =
     let same : locals_up_to x (followed_by e.before e.after) ≡ locals_up_to x e.before = known x e.before e.after p some in
     let most : locals_up_to x e.before ≤ locals_left e.before = few x e.before in
@@ -267,15 +267,16 @@ verdict l x [] = lacks no_block refl
 verdict l x (e ∷ es) = by (stats_from x (stats_of e)) refl (verdict l x es)
   where
     by : (o : Option Trees) → stats_from x (stats_of e) ≡ o → Verdict l x es → Verdict l x (e ∷ es)
-    by None none v = further l x e es none v
+    by None without v = further l x e es without v
     by (Some part) from v = by_side l x e es part from (lies_outside e.repeats part) refl
 
 pub nowhere_refused : (l : ℕ) (x : List ℕ) (es : List Enclosing) → Nowhere x es → refused l x es ≡ Some (NoLabel l)
 nowhere_refused l x [] no_block = refl
-nowhere_refused l x (e ∷ es) (lacking none h) = refused_outside l x e es none ∙ nowhere_refused l x es h
+nowhere_refused l x (e ∷ es) (lacking without h) = refused_outside l x e es without ∙ nowhere_refused l x es h
 
 pub over_refused : (l : ℕ) (x : List ℕ) (es : List Enclosing) → Innermost x (JumpsOver x) es → refused l x es ≡ Some (JumpsIntoLocal l)
+over_refused l x [] over = elim over [ ]
 over_refused l x (e ∷ es) (here part from h) =
     refused_here l x e es part from ∙ (ap (test_of l x e) h.within
     ∙ ap (λ (b : Bool). if b then Some (JumpsIntoLocal l) else None) ((between x e.before e.after h.behind).tells ∙ h.between))
-over_refused l x (e ∷ es) (further_out none h) = refused_outside l x e es none ∙ over_refused l x es h
+over_refused l x (e ∷ es) (further_out without h) = refused_outside l x e es without ∙ over_refused l x es h
