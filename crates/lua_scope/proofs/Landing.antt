@@ -1,5 +1,5 @@
 -- What a goto is refused for, said of the blocks around it.
-use Rattle.std.proofs.Common.{◌≡◌, ◌⊎◌, inl, inr, ℕ, zero, suc, ◌+◌, ◌<◌, ◌≤◌, ◌&&◌, ◌||◌, nat_lt, Bool, true, false, not, if◌then◌else◌, cond, List, [], ◌∷◌, ◌++◌, length, Option, Some, None, option_map, is_some, bytes_eq, refl, sym, ap, subst, ◌∙◌, arith}
+use Rattle.std.proofs.Common.{◌≡◌, inl, inr, ℕ, zero, suc, ◌+◌, ◌<◌, ◌≤◌, ◌||◌, nat_lt, Bool, true, false, not, if◌then◌else◌, cond, List, [], ◌∷◌, ◌++◌, length, Option, Some, None, option_map, bytes_eq, refl, sym, ap, subst, ◌∙◌, arith}
 use Rattle.std.proofs.lemmas.Bool.Decides.{nat_tests}
 use Rattle.std.specs.Option.{option_or}
 use Rattle.lua_ast.specs.Tree.{Tree, Label, Trees, none, snoc}
@@ -7,7 +7,7 @@ use Rattle.lua_scope.specs.declared.occurrence.Label.{Label as BlockLabel}
 use Rattle.lua_scope.specs.declared.labels.FirstLabel.{FirstLabel}
 use Rattle.lua_scope.specs.declared.load_error.LoadError.{LoadError}
 use Rattle.lua_scope.specs.declared.load_error.LoadError.TheVariants.{NoLabel, JumpsIntoLocal}
-use Rattle.lua_scope.specs.Labels.{labels_of, with_labels, inside_of, inside_with, locals_at, locals_left, has_name}
+use Rattle.lua_scope.specs.Labels.{labels_of, with_labels, inside_of, inside_with, locals_at, locals_left}
 use Rattle.lua_scope.specs.FirstLabels.{first_label}
 use Rattle.lua_scope.specs.Refusals.{target, landing}
 use Rattle.lua_scope.proofs.Targets.{first_pushed, locals_there, target_is, not_below}

@@ -1,5 +1,5 @@
 -- The gotos that the walk through a text meets are those of its tree, and each is refused as the blocks around it say.
-use Rattle.std.proofs.Common.{◌≡◌, ℕ, ◌+◌, ◌-◌, Bool, true, false, if◌then◌else◌, List, [], ◌∷◌, ◌++◌, length, map, reverse, take, Option, Some, None, slice_get, refl, sym, ap, subst, ◌∙◌, arith, append-nil, append_assoc}
+use Rattle.std.proofs.Common.{◌≡◌, ℕ, ◌+◌, ◌-◌, Bool, true, false, if◌then◌else◌, List, [], ◌∷◌, ◌++◌, length, map, reverse, take, Option, Some, slice_get, refl, sym, ap, subst, ◌∙◌, arith, append-nil, append_assoc}
 use Rattle.std.proofs.lemmas.List.{reverse-append}
 use Rattle.lua_lexer.specs.declared.token.Token.{Token}
 use Rattle.lua_ast.specs.Tree as node
@@ -17,10 +17,10 @@ use Rattle.lua_scope.specs.declared.frame.Frame.{Frame}
 use Rattle.lua_scope.specs.declared.load_error.LoadError.{LoadError}
 use Rattle.lua_scope.specs.declared.load_error.LoadError.TheVariants.{NoLabel}
 use Rattle.lua_scope.specs.Labels.{labels_of, inside_of, locals_at, locals_left, has_label}
-use Rattle.lua_scope.specs.Walk.{opens, walked, list_walked, stats_walked, body_walked, cases_walked, maybe_walked, fields_walked}
-use Rattle.lua_scope.specs.Scope.{ScopeState, scope, scope_opened, scope_closed, cut_to, entered, variables_from, first_variable}
+use Rattle.lua_scope.specs.Walk.{opens, walked, list_walked, stats_walked, body_walked, cases_walked, fields_walked}
+use Rattle.lua_scope.specs.Scope.{ScopeState, scope, scope_closed, cut_to, entered, variables_from, first_variable}
 use Rattle.lua_scope.specs.Refusals.{target as target_at, landing, jump_in, jump}
-use Rattle.lua_scope.specs.Gotos.{Enclosing, followed_by, stats_of, GotoThere, gotos, list_gotos, stats_gotos, body_gotos, cases_gotos, maybe_gotos, fields_gotos}
+use Rattle.lua_scope.specs.Gotos.{Enclosing, followed_by, stats_of, GotoThere, gotos, list_gotos, stats_gotos, body_gotos, cases_gotos, fields_gotos}
 
 -- ---- what a goto is refused for, and what those are refused for that a walk has met
 

@@ -1,5 +1,5 @@
 -- From the first refusal of a text to the goto that it tells of, and back.
-use Rattle.std.proofs.Common.{◌≡◌, ℕ, zero, suc, Bool, true, false, if◌then◌else◌, List, [], ◌∷◌, length, map, reverse, Option, Some, None, slice_get, refl, sym, ap, subst, ◌∙◌}
+use Rattle.std.proofs.Common.{◌≡◌, ℕ, zero, suc, Bool, true, false, if◌then◌else◌, List, [], ◌∷◌, map, reverse, Option, Some, None, slice_get, refl, sym, ap, subst, ◌∙◌}
 use Rattle.lua_ast.specs.Tree.{Tree}
 use Rattle.lua_scope.specs.declared.occurrence.Occurrence.{Occurrence}
 use Rattle.lua_scope.specs.declared.occurrence.Occurrence.TheVariants as occurrence
@@ -7,11 +7,11 @@ use Rattle.lua_scope.specs.declared.load_error.LoadError.{LoadError}
 use Rattle.lua_scope.specs.declared.load_error.LoadError.TheVariants.{NoLabel, TwoLabels, JumpsIntoLocal, BreakOutside, VarargOutside}
 use Rattle.lua_scope.specs.Walk.{walked}
 use Rattle.lua_scope.specs.Scope.{scope}
-use Rattle.lua_scope.specs.Refusals.{jump, in_loop, has_varargs, refusal_in, earlier, first_refusal}
+use Rattle.lua_scope.specs.Refusals.{in_loop, has_varargs, refusal_in, earlier, first_refusal}
 use Rattle.lua_scope.specs.Loads.{HasTokensOf, LoadsAs}
-use Rattle.lua_scope.specs.Gotos.{Enclosing, GotoThere, gotos_of}
-use Rattle.lua_scope.specs.Jumps.{Innermost, Reaches, JumpsOver, Lands, LacksLabel, EntersLocal, HasGoto}
-use Rattle.lua_scope.proofs.MetGotos.{refused, told, refusals_met, met_gotos}
+use Rattle.lua_scope.specs.Gotos.{GotoThere, gotos_of}
+use Rattle.lua_scope.specs.Jumps.{Lands, LacksLabel, EntersLocal, HasGoto}
+use Rattle.lua_scope.proofs.MetGotos.{told, refusals_met, met_gotos}
 use Rattle.lua_scope.proofs.Landing.{Verdict, lacks, lands, enters, verdict, nowhere_refused, over_refused}
 
 -- ---- refusals of gotos among all refusals
