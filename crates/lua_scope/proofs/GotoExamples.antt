@@ -16,9 +16,11 @@ abbrev out_of_a_block : Tree
 out_of_a_block = Block 0 1 (snoc (snoc (snoc (snoc none local_x) (Do 0 2 (Block 0 3 (snoc none goes)))) (Label 0 5 (codes "l"))) local_x)
 
 its_goto : gotos_of out_of_a_block ≡ record {
-      line = 3; label = codes "l";
-      around = record { repeats = false; before = none; after = goes ∷ [] }
-          ∷ record { repeats = false; before = snoc none local_x; after = Do 0 2 (Block 0 3 (snoc none goes)) ∷ Label 0 5 (codes "l") ∷ local_x ∷ [] } ∷ [] } ∷ []
+  line = 3;
+  label = codes "l";
+  around = record { repeats = false; before = none; after = goes ∷ [] }
+      ∷ record { repeats = false; before = snoc none local_x; after = Do 0 2 (Block 0 3 (snoc none goes)) ∷ Label 0 5 (codes "l") ∷ local_x ∷ [] } ∷ [];
+} ∷ []
 unfolding gotos
 its_goto = refl
 
