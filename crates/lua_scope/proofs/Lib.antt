@@ -27,3 +27,7 @@ pub mod Loading
 mod OneAnswer
 mod EveryText
 pub mod Capturing
+mod MetGotos
+mod Landing
+mod RefusedGotos
+mod GotoExamples

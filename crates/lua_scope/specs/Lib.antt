@@ -14,3 +14,5 @@ pub mod Refusals
 pub mod Resolved
 pub mod OfChunk
 pub mod Loads
+pub mod Gotos
+pub mod Jumps

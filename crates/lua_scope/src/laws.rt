@@ -1,6 +1,6 @@
 //! Laws of what names mean. Each function does nothing, and its contract is the law.
 
-ghost use Rattle.std.specs.Prelude.{◌≡◌, Some, ◌⊎◌, ℕ, ◌==◌, ◌≤◌, true, List, []};
+ghost use Rattle.std.specs.Prelude.{◌≡◌, Some, slice_get, ◌⊎◌, ℕ, ◌==◌, ◌≤◌, true, List, []};
 ghost use Rattle.std.specs.List.{list_any};
 ghost use Rattle.std.specs.List.Sorted.{IsStrictlyIncreasing};
 ghost use Rattle.lua_scope.specs.declared.occurrence.Occurrence.{Occurrence as OccurrenceOf};
@@ -14,9 +14,12 @@ ghost use Rattle.lua_parser.specs.Parsing.{tree_of};
 ghost use Rattle.lua_scope.specs.Walk.{walked};
 ghost use Rattle.lua_scope.specs.OfChunk.{occurrences_of};
 ghost use Rattle.lua_scope.specs.Meets.{Meets, occurrence_at};
-ghost use Rattle.lua_scope.specs.Loads.{LoadsAs, Loads, LoadFails};
+ghost use Rattle.lua_scope.specs.Loads.{HasTokensOf, LoadsAs, Loads, LoadFails};
+ghost use Rattle.lua_scope.specs.Gotos.{GotoThere as GotoOf, gotos_of};
+ghost use Rattle.lua_scope.specs.Jumps.{Lands, LacksLabel, EntersLocal, HasGoto};
 ghost use Rattle.lua_scope.specs.Refusals.{first_refusal};
 ghost use Rattle.lua_scope.specs.declared.load_error.LoadError.{LoadError as ErrorOf};
+ghost use Rattle.lua_scope.specs.declared.load_error.LoadError.TheVariants.{NoLabel, JumpsIntoLocal};
 ghost use Rattle.lua_scope.specs.declared.frame.Frame.{Frame as FrameOf};
 ghost use Rattle.lua_scope.specs.Scope.{scope, first_variable};
 ghost use Rattle.lua_scope.specs.Variables.{captured_by, is_captured, is_scope_of};
@@ -80,3 +83,25 @@ pub fn one_numbering()
 {
     one_answer();
 }
+
+/// In a text that loads each goto finds its label in its own block or in one around it within its
+/// function, and in the innermost that has one. The locals of that block which are in scope there
+/// are the first of those at the goto, or the label lies outside them (Lua 5.2 manual, 3.3.4).
+pub fn gotos_land()
+    ensures { (text : List ℕ) (t : Tree) (k : ℕ) (g : GotoOf) →
+        LoadsAs text t → slice_get (gotos_of t) k ≡ Some g → Lands g }
+{}
+
+/// A text that is refused for its labels has a goto on the line that is told: of the blocks around
+/// it in its function none has the label, or the innermost that has it declares a local between
+/// the two. And no text with such a goto loads.
+pub fn gotos_refused()
+    ensures nowhere { (text : List ℕ) (t : Tree) (l : ℕ) → HasTokensOf text t →
+        first_refusal (walked [] t) ≡ Some (NoLabel l) → HasGoto t l LacksLabel }
+    ensures over { (text : List ℕ) (t : Tree) (l : ℕ) → HasTokensOf text t →
+        first_refusal (walked [] t) ≡ Some (JumpsIntoLocal l) → HasGoto t l EntersLocal }
+    ensures lacks { (text : List ℕ) (t : Tree) (l : ℕ) →
+        LoadsAs text t → HasGoto t l LacksLabel → ⊥ }
+    ensures enters { (text : List ℕ) (t : Tree) (l : ℕ) →
+        LoadsAs text t → HasGoto t l EntersLocal → ⊥ }
+{}

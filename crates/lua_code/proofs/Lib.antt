@@ -1,0 +1,4 @@
+mod Parts
+mod OneCode
+mod Labels
+mod Examples
