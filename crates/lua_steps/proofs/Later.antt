@@ -29,6 +29,9 @@ module _ (a b : Ids) (later : AreLater a b) where
   slot_later (v, slot.Held x) own = value_later a b later x own
   slot_later (v, slot.Cell i) own = omega (arith, own, later.cells)
 
+  pub locals_later : (ls : List (ℕ × Slot)) → All (IsOwnLocal a) ls → All (IsOwnLocal b) ls
+  locals_later ls own = All-weaker (IsOwnLocal a) (IsOwnLocal b) slot_later ls own
+
   pub call_later : (call : CallOf) → IsOwnCall a call → IsOwnCall b call
   call_later call own = record { locals = All-weaker (IsOwnLocal a) (IsOwnLocal b) slot_later call.locals own.locals; varargs = values_later call.varargs own.varargs }
 

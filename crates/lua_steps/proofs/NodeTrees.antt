@@ -24,18 +24,27 @@ pub tree_missing : (nodes : List LinedNode) (i : ℕ) → slice_get nodes i ≡ 
 unfolding tree
 tree_missing nodes i e = ap (λ o. tree_at (tree_to own_number nodes i) i o) e
 
-never : (i : ℕ) → None ≡ Some i → ⊥
+never : {X : Type 0} (i : X) → None ≡ Some i → ⊥
 never i e = cc
 
-inner : (x y : ℕ) → Some x ≡ Some y → x ≡ y
+never_none : {X : Type 0} (i : X) → Some i ≡ None → ⊥
+never_none i e = cc
+
+inner : {X : Type 0} (x y : X) → Some x ≡ Some y → x ≡ y
 inner x y e = cc
 
-pub next_there : (xs : List ℕ) (place i : ℕ) → slice_get xs place ≡ Some i → drop place xs ≡ i ∷ drop (place + 1) xs
+pub next_there : {X : Type 0} (xs : List X) (place : ℕ) (i : X) → slice_get xs place ≡ Some i → drop place xs ≡ i ∷ drop (place + 1) xs
 next_there [] zero i e = absurd (never i e)
 next_there [] (suc place) i e = absurd (never i e)
 next_there (x ∷ []) zero i e = ap (λ y. y ∷ []) (inner x i e)
 next_there (x ∷ y ∷ ys) zero i e = ap (λ z. z ∷ y ∷ ys) (inner x i e)
 next_there (x ∷ xs) (suc place) i e = let more : suc (place + 1) ≡ suc place + 1 = omega arith in next_there xs place i e ∙ ap (λ n. i ∷ drop n (x ∷ xs)) more
+
+pub none_there : {X : Type 0} (xs : List X) (place : ℕ) → slice_get xs place ≡ None → drop place xs ≡ []
+none_there [] zero e = refl
+none_there [] (suc place) e = refl
+none_there (x ∷ xs) zero e = absurd (never_none x e)
+none_there (x ∷ xs) (suc place) e = none_there xs place e
 
 pub none_left : (xs : List ℕ) (place : ℕ) → length xs ≤ place → drop place xs ≡ []
 none_left [] zero le = refl

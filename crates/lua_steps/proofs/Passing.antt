@@ -1,9 +1,9 @@
 -- What errors, stops, returns, breaks and jumps pass.
-use Rattle.std.proofs.Common.{◌≡◌, ℕ, List, [], ◌∷◌, Bool, true, false, refl, subst, arith}
+use Rattle.std.proofs.Common.{◌≡◌, ℕ, List, [], ◌∷◌, Bool, true, false, refl, subst}
 use Rattle.zc_budget.specs.declared.budget.Stop.{Stop}
 use Rattle.lua_ast.specs.declared.node.LinedNode.{LinedNode}
 use Rattle.lua_meaning.specs.declared.value.Value.{Value}
-use Rattle.lua_meaning.specs.Store.{Store, store, Breaks, Jumps, Returns, Raises, Stops, Resumptions, Result, Halt}
+use Rattle.lua_meaning.specs.Store.{Store, Breaks, Jumps, Returns, Raises, Stops, Resumptions, Result, Halt}
 use Rattle.lua_meaning.specs.Code.{Code}
 use Rattle.lua_meaning.specs.Jobs.{HostOf}
 use Rattle.lua_coroutines.specs.declared.frame.Frame.{Frame}
@@ -18,17 +18,11 @@ use Rattle.lua_coroutines.specs.declared.frame.EachFrame.TheVariants as each_loo
 use Rattle.lua_coroutines.specs.declared.frame.TableFrame.TheVariants as table
 use Rattle.lua_coroutines.specs.declared.frame.OperandFrame.TheVariants as operand
 use Rattle.lua_coroutines.specs.declared.frame.NativeFrame.TheVariants as native
-use Rattle.lua_steps.specs.declared.mode.Mode.{Mode}
-use Rattle.lua_steps.specs.declared.mode.Mode.TheVariants as mode
 use Rattle.lua_steps.specs.Parts.{name_there}
 use Rattle.lua_steps.specs.Frames.{goes_on}
-use Rattle.lua_steps.specs.Works.{Leads, Works}
-use Rattle.lua_steps.proofs.Steps.{falls_to}
+use Rattle.lua_steps.specs.Works.{Leads}
 
 module _ {H : Type 0} (host : HostOf H) (code : Code) (nodes : List LinedNode) (ended : ℕ) (whole : ℕ → Resumptions H → Result H) where
-  abbrev At : Store H → List Frame → Mode → Type 0
-  At s fs b = Works host code nodes ended s fs b whole
-
   raises_pass : (m n : ℕ) (f : Frame) (v : Value) (s : Store H) (r : Resumptions H) → goes_on host code nodes m n f (Halt (Raises v) s r) ≡ Halt (Raises v) s r
   raises_pass m n (frame.Body (body.Statements block next outer)) v s r = refl
   raises_pass m n (frame.Body (body.Open block next outer)) v s r = refl
@@ -70,9 +64,6 @@ module _ {H : Type 0} (host : HostOf H) (code : Code) (nodes : List LinedNode) (
   raises_pass m n (frame.Native (native.Waits a lines call')) v s r = refl
   raises_pass m n (frame.Native (native.Yields lines call')) v s r = refl
   raises_pass m n (frame.Native (native.Resumes wrapped lines call' under)) v s r = refl
-
-  pub raises_on : (s : Store H) (fs : List Frame) (f : Frame) (v : Value) → At s (f ∷ fs) (mode.Raise v) → At s fs (mode.Raise v)
-  raises_on (store x y c rs) fs f v = falls_to host code nodes ended (store x y c rs) (store x y c rs) fs f (mode.Raise v) (mode.Raise v) (λ r. Halt (Raises v) (store x y c rs) r) whole (λ m n r. refl) (record { same_limit = refl; since = omega arith }) (omega arith) (omega arith) (λ m n r. raises_pass m n f v (store x y c rs) r)
 
   stops_pass : (m n : ℕ) (f : Frame) (st : Stop) (s : Store H) (r : Resumptions H) → goes_on host code nodes m n f (Halt (Stops st) s r) ≡ Halt (Stops st) s r
   stops_pass m n (frame.Body (body.Statements block next outer)) st s r = refl
@@ -116,14 +107,11 @@ module _ {H : Type 0} (host : HostOf H) (code : Code) (nodes : List LinedNode) (
   stops_pass m n (frame.Native (native.Yields lines call')) st s r = refl
   stops_pass m n (frame.Native (native.Resumes wrapped lines call' under)) st s r = refl
 
-  pub stops_on : (s : Store H) (fs : List Frame) (f : Frame) (st : Stop) → At s (f ∷ fs) (mode.Stopped st) → At s fs (mode.Stopped st)
-  stops_on (store x y c rs) fs f st = falls_to host code nodes ended (store x y c rs) (store x y c rs) fs f (mode.Stopped st) (mode.Stopped st) (λ r. Halt (Stops st) (store x y c rs) r) whole (λ m n r. refl) (record { same_limit = refl; since = omega arith }) (omega arith) (omega arith) (λ m n r. stops_pass m n f st (store x y c rs) r)
-
   abbrev pub ends_return : Frame → Bool
   ends_return (frame.Body (body.Caller call)) = true
   ends_return f = false
 
-  returns_pass : (m n : ℕ) (f : Frame) (ws : List Value) (s : Store H) (r : Resumptions H) → ends_return f ≡ false → goes_on host code nodes m n f (Halt (Returns ws) s r) ≡ Halt (Returns ws) s r
+  pub returns_pass : (m n : ℕ) (f : Frame) (ws : List Value) (s : Store H) (r : Resumptions H) → ends_return f ≡ false → goes_on host code nodes m n f (Halt (Returns ws) s r) ≡ Halt (Returns ws) s r
   returns_pass m n (frame.Body (body.Statements block next outer)) ws s r e = refl
   returns_pass m n (frame.Body (body.Open block next outer)) ws s r e = refl
   returns_pass m n (frame.Body (body.Caller call)) ws s r e = absurd (let ends_here : true ≡ false = e in cc)
@@ -165,9 +153,6 @@ module _ {H : Type 0} (host : HostOf H) (code : Code) (nodes : List LinedNode) (
   returns_pass m n (frame.Native (native.Yields lines call')) ws s r e = refl
   returns_pass m n (frame.Native (native.Resumes wrapped lines call' under)) ws s r e = refl
 
-  pub returns_on : (s : Store H) (fs : List Frame) (f : Frame) (ws : List Value) → ends_return f ≡ false → At s (f ∷ fs) (mode.Leave ws) → At s fs (mode.Leave ws)
-  returns_on (store x y c rs) fs f ws e = falls_to host code nodes ended (store x y c rs) (store x y c rs) fs f (mode.Leave ws) (mode.Leave ws) (λ r. Halt (Returns ws) (store x y c rs) r) whole (λ m n r. refl) (record { same_limit = refl; since = omega arith }) (omega arith) (omega arith) (λ m n r. returns_pass m n f ws (store x y c rs) r e)
-
   abbrev pub ends_break : Frame → Bool
   ends_break (frame.Body (body.Caller call)) = true
   ends_break (frame.While (while_loop.Test node outer)) = true
@@ -179,7 +164,7 @@ module _ {H : Type 0} (host : HostOf H) (code : Code) (nodes : List LinedNode) (
   ends_break (frame.Each (each_loop.Turn node f state control outer before)) = true
   ends_break f = false
 
-  breaks_pass : (m n : ℕ) (f : Frame) (s : Store H) (r : Resumptions H) → ends_break f ≡ false → goes_on host code nodes m n f (Halt (Breaks) s r) ≡ Halt (Breaks) s r
+  pub breaks_pass : (m n : ℕ) (f : Frame) (s : Store H) (r : Resumptions H) → ends_break f ≡ false → goes_on host code nodes m n f (Halt (Breaks) s r) ≡ Halt (Breaks) s r
   breaks_pass m n (frame.Body (body.Statements block next outer)) s r e = refl
   breaks_pass m n (frame.Body (body.Open block next outer)) s r e = refl
   breaks_pass m n (frame.Body (body.Caller call)) s r e = absurd (let ends_here : true ≡ false = e in cc)
@@ -221,16 +206,13 @@ module _ {H : Type 0} (host : HostOf H) (code : Code) (nodes : List LinedNode) (
   breaks_pass m n (frame.Native (native.Yields lines call')) s r e = refl
   breaks_pass m n (frame.Native (native.Resumes wrapped lines call' under)) s r e = refl
 
-  pub breaks_on : (s : Store H) (fs : List Frame) (f : Frame) → ends_break f ≡ false → At s (f ∷ fs) (mode.Break) → At s fs (mode.Break)
-  breaks_on (store x y c rs) fs f e = falls_to host code nodes ended (store x y c rs) (store x y c rs) fs f (mode.Break) (mode.Break) (λ r. Halt (Breaks) (store x y c rs) r) whole (λ m n r. refl) (record { same_limit = refl; since = omega arith }) (omega arith) (omega arith) (λ m n r. breaks_pass m n f (store x y c rs) r e)
-
   abbrev pub ends_jump : Frame → Bool
   ends_jump (frame.Body (body.Statements block next outer)) = true
   ends_jump (frame.Body (body.Open block next outer)) = true
   ends_jump (frame.Body (body.Caller call)) = true
   ends_jump f = false
 
-  jumps_pass : (m n : ℕ) (f : Frame) (i : ℕ) (s : Store H) (r : Resumptions H) → ends_jump f ≡ false → goes_on host code nodes m n f (Halt (Jumps (name_there nodes i)) s r) ≡ Halt (Jumps (name_there nodes i)) s r
+  pub jumps_pass : (m n : ℕ) (f : Frame) (i : ℕ) (s : Store H) (r : Resumptions H) → ends_jump f ≡ false → goes_on host code nodes m n f (Halt (Jumps (name_there nodes i)) s r) ≡ Halt (Jumps (name_there nodes i)) s r
   jumps_pass m n (frame.Body (body.Statements block next outer)) i s r e = absurd (let ends_here : true ≡ false = e in cc)
   jumps_pass m n (frame.Body (body.Open block next outer)) i s r e = absurd (let ends_here : true ≡ false = e in cc)
   jumps_pass m n (frame.Body (body.Caller call)) i s r e = absurd (let ends_here : true ≡ false = e in cc)
@@ -271,9 +253,6 @@ module _ {H : Type 0} (host : HostOf H) (code : Code) (nodes : List LinedNode) (
   jumps_pass m n (frame.Native (native.Waits a lines call')) i s r e = refl
   jumps_pass m n (frame.Native (native.Yields lines call')) i s r e = refl
   jumps_pass m n (frame.Native (native.Resumes wrapped lines call' under)) i s r e = refl
-
-  pub jumps_on : (s : Store H) (fs : List Frame) (f : Frame) (i : ℕ) → ends_jump f ≡ false → At s (f ∷ fs) (mode.Jump i) → At s fs (mode.Jump i)
-  jumps_on (store x y c rs) fs f i e = falls_to host code nodes ended (store x y c rs) (store x y c rs) fs f (mode.Jump i) (mode.Jump i) (λ r. Halt (Jumps (name_there nodes i)) (store x y c rs) r) whole (λ m n r. refl) (record { same_limit = refl; since = omega arith }) (omega arith) (omega arith) (λ m n r. jumps_pass m n f i (store x y c rs) r e)
 
   -- an error, or a stop, is the whole outcome
   pub raises_all : (m l u : ℕ) (fs : List Frame) (v : Value) (s : Store H) (r : Resumptions H) (w : Result H) → Leads host code nodes m l u fs (Halt (Raises v) s r) w → Halt (Raises v) s r ≡ w

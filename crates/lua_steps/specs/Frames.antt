@@ -18,7 +18,7 @@ use Rattle.lua_meaning.specs.Operators.{binary, unary, told, negated_if}
 use Rattle.lua_meaning.specs.Indexing.{look, put_at}
 use Rattle.lua_meaning.specs.Nodes.{eval, expressions, closed, landed, loop_ends, by_truth, call, logic, maybe_eval, step_of, store_one, store_all, slot_target, count, start_count, open_body}
 use Rattle.lua_meaning.specs.Loops.{each_with, count_next, round_ends}
-use Rattle.lua_meaning.specs.Calls.{body_ends, then_made}
+use Rattle.lua_meaning.specs.Calls.{body_ends, then_made, made_of}
 use Rattle.lua_meaning.specs.Programs.{jobs, resume}
 use Rattle.lua_coroutines.specs.declared.frame.Frame.{Frame}
 use Rattle.lua_coroutines.specs.declared.frame.Frame.TheVariants as frame
@@ -179,3 +179,15 @@ module _ {H : Type 0} (host : HostOf H) (code : Code) (nodes : List LinedNode) (
   means n (mode.Open i) = open_body code (jobs_at n) (part nodes i)
   means n (mode.Next node f state control outer) = λ s r. loop_ends outer (begin_next n node f state control s r)
   means n (mode.Call f args lines own) = jobs_at n (Apply f args lines (inner_of own lines))
+  means n (mode.Declare node vs) = declare_all code (code.first_variable node) (name_count_at nodes node) vs (go [])
+  means n (mode.Items node next t c vs) = items_then code (jobs_at n) (part nodes) (drop next (fields_at nodes node)) t c (line_number nodes node) (go (value.Table t ∷ [])) vs
+  means n (mode.Entry node next t c key v) = entry_then n node next t c key (v ∷ [])
+  means n (mode.Binary node a b) = operate_at n node a (b ∷ [])
+  means n (mode.Unary node a) = λ s. unary (jobs_at n) (unary_at nodes node) a (at_line (line_number nodes node) s) s
+  means n (mode.Turn node outer) = λ s r. loop_ends outer (turn_after n node s r)
+  means n (mode.Start node a b c) = counts n node a b c
+  means n (mode.Each node f state outer vs) = λ s r. loop_ends outer (each_result n node f state vs s r)
+  means n (mode.Return node vs) = λ s. if_few (at_line (line_number nodes node) s) vs (halt (Returns vs)) s
+  means n (mode.Apply node f vs) = make_call n node f vs
+  means n (mode.Results lines vs) = if_few lines vs (go vs)
+  means n (mode.Made a lines vs) = made_of a vs lines

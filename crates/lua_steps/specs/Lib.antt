@@ -3,3 +3,9 @@ pub mod Frames
 pub mod Works
 pub mod Starts
 pub mod Own
+pub mod Configuration
+pub mod Given
+pub mod Passed
+pub mod Effects
+pub mod Machine
+pub mod Keeping

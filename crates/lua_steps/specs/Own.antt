@@ -6,7 +6,7 @@ use Rattle.lua_meaning.specs.declared.variable.Slot.TheVariants as slot
 use Rattle.lua_meaning.specs.declared.variable.Target.{Target}
 use Rattle.lua_meaning.specs.declared.variable.Target.TheVariants as target
 use Rattle.lua_meaning.specs.Store.{CallOf}
-use Rattle.lua_values.specs.Ids.{Ids, IsOf}
+use Rattle.lua_values.specs.Ids.{Ids, ids_of, AreLater, IsOf}
 use Rattle.lua_coroutines.specs.declared.frame.Frame.{Frame}
 use Rattle.lua_coroutines.specs.declared.frame.Frame.TheVariants as frame
 use Rattle.lua_coroutines.specs.declared.frame.BodyFrame.{BodyFrame}
@@ -27,6 +27,9 @@ use Rattle.lua_coroutines.specs.declared.frame.NativeFrame.{NativeFrame}
 use Rattle.lua_coroutines.specs.declared.frame.NativeFrame.TheVariants as native
 use Rattle.lua_steps.specs.declared.mode.Mode.{Mode}
 use Rattle.lua_steps.specs.declared.mode.Mode.TheVariants as mode
+use Rattle.lua_steps.specs.declared.given.Given.{Given}
+use Rattle.lua_steps.specs.declared.given.Given.TheVariants as given
+use Rattle.lua_steps.specs.Configuration.{Next}
 
 module _ (ids : Ids) where
   abbrev pub AreOf : List Value → Type 0
@@ -108,16 +111,39 @@ module _ (ids : Ids) where
   IsOwnMode (mode.Give values) = AreOf values
   IsOwnMode (mode.Leave values) = AreOf values
   IsOwnMode (mode.Raise v) = IsOf ids v
+  IsOwnMode (mode.Declare node values) = AreOf values
   IsOwnMode (mode.Targets node next targets) = All IsOwnTarget targets
   IsOwnMode (mode.Stores node targets values) = All IsOwnTarget targets × AreOf values
   IsOwnMode (mode.Fields node next t count) = t < ids.tables
+  IsOwnMode (mode.Items node next t count values) = (t < ids.tables) × AreOf values
+  IsOwnMode (mode.Entry node next t count key v) = (t < ids.tables) × IsOf ids key × IsOf ids v
+  IsOwnMode (mode.Binary node left right) = IsOf ids left × IsOf ids right
+  IsOwnMode (mode.Unary node one) = IsOf ids one
   IsOwnMode (mode.Look node object key) = IsOf ids object × IsOf ids key
   IsOwnMode (mode.Put node object key v) = IsOf ids object × IsOf ids key × IsOf ids v
   IsOwnMode (mode.Next node function state control outer) = IsOf ids function × IsOf ids state × IsOf ids control
+  IsOwnMode (mode.Start node first limit step) = IsOf ids first × IsOf ids limit × IsOf ids step
+  IsOwnMode (mode.Each node function state outer values) = IsOf ids function × IsOf ids state × AreOf values
+  IsOwnMode (mode.Return node values) = AreOf values
+  IsOwnMode (mode.Apply node function args) = IsOf ids function × AreOf args
   IsOwnMode (mode.Call function args lines own) = IsOf ids function × AreOf args
+  IsOwnMode (mode.Results lines values) = AreOf values
+  IsOwnMode (mode.Made after lines values) = AreOf values
   IsOwnMode _ = ⊤
+
+  -- what becomes of a frame
+  abbrev pub IsOwnGiven : Given → Type 0
+  IsOwnGiven (given.Goes b) = IsOwnMode b
+  IsOwnGiven (given.Enters f b) = IsOwnFrame f × IsOwnMode b
+  IsOwnGiven (given.Cuts n b) = IsOwnMode b
+  IsOwnGiven (given.Returns call b) = IsOwnCall call × IsOwnMode b
+  IsOwnGiven (given.Lands n f) = IsOwnFrame f
 
 -- The call in progress and the frames hold numbers of the heap alone.
 pub record AreOfHeap (ids : Ids) (at : CallOf) (fs : List Frame) : Type 0 where
   pub call : IsOwnCall ids at
   pub frames : All (IsOwnFrame ids) fs
+
+-- What comes next holds numbers of its heap alone, which has no fewer of them than there were.
+abbrev pub IsOwnNext : (before : Ids) → Next → Type 0
+IsOwnNext before y = AreLater before (ids_of y.1.heap) × IsOwnMode (ids_of y.1.heap) y.0 × AreOfHeap (ids_of y.1.heap) y.1.call y.1.frames

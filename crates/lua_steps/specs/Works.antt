@@ -20,9 +20,15 @@ abbrev pub need : Mode → ℕ
 need (mode.Targets node next ts) = 1
 need (mode.Stores node ts xs) = 1
 need (mode.Fields node next t c) = 1
+need (mode.Items node next t c vs) = 1
+need (mode.Entry node next t c key v) = 1
+need (mode.Turn node outer) = 1
+need (mode.Start node a b c) = 1
 need (mode.Count node at limit step outer) = 1
 need (mode.Round node outer) = 1
 need (mode.Next node f state control outer) = 1
+need (mode.Each node f state outer vs) = 1
+need (mode.Apply node f vs) = 1
 need (mode.Call f args lines own) = 1
 need _ = 0
 

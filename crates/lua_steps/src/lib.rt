@@ -3,6 +3,8 @@
 //! The meaning is in `specs/`, the lemmas for each step in `proofs/`.
 #![tactic(auto)]
 
+mod given;
 mod mode;
 
+pub use given::Given;
 pub use mode::Mode;

@@ -2,7 +2,7 @@
 
 use lua_ast::NodeId;
 use lua_coroutines::{Lines, Targets};
-use lua_meaning::{TableId, Value};
+use lua_meaning::{After, TableId, Value};
 use lua_values::ValueList;
 use zc_budget::Stop;
 
@@ -25,6 +25,11 @@ pub enum Mode {
     Raise(Value),
     /// A limit was reached.
     Stopped(Stop),
+    /// It declares the names of a `local`, with these values.
+    Declare {
+        node: NodeId,
+        values: ValueList,
+    },
     /// It works out what an assignment stores to, from the target at `next` on.
     Targets {
         node: NodeId,
@@ -45,6 +50,34 @@ pub enum Mode {
         table: TableId,
         count: u64,
     },
+    /// It puts the values of a field without a key, from the number `count` on.
+    Items {
+        node: NodeId,
+        next: usize,
+        table: TableId,
+        count: u64,
+        values: ValueList,
+    },
+    /// It puts the value of a field at its key.
+    Entry {
+        node: NodeId,
+        next: usize,
+        table: TableId,
+        count: u64,
+        key: Value,
+        value: Value,
+    },
+    /// It works out a binary operator.
+    Binary {
+        node: NodeId,
+        left: Value,
+        right: Value,
+    },
+    /// It works out a unary operator.
+    Unary {
+        node: NodeId,
+        operand: Value,
+    },
     /// It looks `object[key]` up.
     Look {
         node: NodeId,
@@ -58,12 +91,9 @@ pub enum Mode {
         key: Value,
         value: Value,
     },
-    /// It begins the turn of a numeric `for` with the number `at`, if there is one.
-    Count {
+    /// It begins a turn of a `while`. `outer` locals were in scope where the loop began.
+    Turn {
         node: NodeId,
-        at: i64,
-        limit: i64,
-        step: i64,
         outer: usize,
     },
     /// It begins a turn of a `repeat`.
@@ -73,7 +103,22 @@ pub enum Mode {
     },
     /// It begins the block of a `repeat`.
     Open(NodeId),
-    /// It begins a turn of a generic `for`.
+    /// It begins a numeric `for`.
+    Start {
+        node: NodeId,
+        first: Value,
+        limit: Value,
+        step: Value,
+    },
+    /// It begins the turn of a numeric `for` with the number `at`, if there is one.
+    Count {
+        node: NodeId,
+        at: i64,
+        limit: i64,
+        step: i64,
+        outer: usize,
+    },
+    /// It calls the iterator function of a generic `for`.
     Next {
         node: NodeId,
         function: Value,
@@ -81,11 +126,41 @@ pub enum Mode {
         control: Value,
         outer: usize,
     },
+    /// It begins a turn of a generic `for` with what the iterator function gave.
+    Each {
+        node: NodeId,
+        function: Value,
+        state: Value,
+        outer: usize,
+        values: ValueList,
+    },
+    /// It ends a `return` with these values.
+    Return {
+        node: NodeId,
+        values: ValueList,
+    },
+    /// It makes the call of a node.
+    Apply {
+        node: NodeId,
+        function: Value,
+        args: ValueList,
+    },
     /// It calls a function, where `is_own` as a coroutine's own.
     Call {
         function: Value,
         args: ValueList,
         lines: Lines,
         is_own: bool,
+    },
+    /// It hands on what a built-in gives.
+    Results {
+        lines: Lines,
+        values: ValueList,
+    },
+    /// A built-in makes its answer of what the function gave that it called.
+    Made {
+        after: After,
+        lines: Lines,
+        values: ValueList,
     },
 }
