@@ -119,9 +119,9 @@ module _ {H : Type 0} (c : Setting H) where
   pushes_at {n} {p} {u} {fs} {o} h f b y z e = record {
     grows = h.grows;
     ends = λ m r le.
-      (let w = h.ends m r le in
-      let k = e m w.0 r w.2 in
-      (k.1, u.instructions, k.3, omega (arith, z), (k.0, k.2, later c.host c.code c.nodes m u.most_instructions w.1 u.instructions fs _ (c.whole m r) (omega (arith, w.3)) (subst (λ z. Leads c.host c.code c.nodes m u.most_instructions w.1 fs z (c.whole m r)) k.4 w.4))));
+        (let w = h.ends m r le in
+        let k = e m w.0 r w.2 in
+        (k.1, u.instructions, k.3, omega (arith, z), (k.0, k.2, later c.host c.code c.nodes m u.most_instructions w.1 u.instructions fs _ (c.whole m r) (omega (arith, w.3)) (subst (λ z. Leads c.host c.code c.nodes m u.most_instructions w.1 fs z (c.whole m r)) k.4 w.4))));
   }
 
   pub pushes : {n p : ℕ} {u : Used} {fs : List Frame} {o : ℕ → ℕ → Resumptions H → Result H} → Runs n p u fs o → (f : Frame) (b : Mode) (y : Configuration) → spare b ≡ 0 → 1 ≤ n → need b ≤ n →

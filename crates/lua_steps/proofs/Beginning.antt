@@ -136,9 +136,9 @@ module _ {H : Type 0} (c : Setting H) where
       let values_are_these : list_at c.nodes i ≡ exps = rw there.there refl in
       let line_is : line_number c.nodes i ≡ there.line = rw there.there refl in
       targets_are c.code (jobs_of m j) tree_of targets (λ ts. expressions c.code (jobs_of m j) (list_of tree_of exps) (λ vs. store_all c.code (jobs_of m j) ts vs there.line)) (as_store c y) r
-        ∙ ap (λ es. targets_from c.code (jobs_of m j) tree_of [] targets (λ ts. expressions c.code (jobs_of m j) (list_of tree_of es) (λ vs. store_all c.code (jobs_of m j) ts vs there.line)) (as_store c y) r) (sym values_are_these)
-        ∙ ap (λ l. targets_from c.code (jobs_of m j) tree_of [] targets (λ ts. expressions c.code (jobs_of m j) (list_of tree_of (list_at c.nodes i)) (λ vs. store_all c.code (jobs_of m j) ts vs l)) (as_store c y) r) (sym line_is)
-        ∙ ap (λ is. targets_from c.code (jobs_of m j) tree_of [] is (values_for c.host c.code c.nodes m j i) (as_store c y) r) (sym targets_are_these)
+      ∙ ap (λ es. targets_from c.code (jobs_of m j) tree_of [] targets (λ ts. expressions c.code (jobs_of m j) (list_of tree_of es) (λ vs. store_all c.code (jobs_of m j) ts vs there.line)) (as_store c y) r) (sym values_are_these)
+      ∙ ap (λ l. targets_from c.code (jobs_of m j) tree_of [] targets (λ ts. expressions c.code (jobs_of m j) (list_of tree_of (list_at c.nodes i)) (λ vs. store_all c.code (jobs_of m j) ts vs l)) (as_store c y) r) (sym line_is)
+      ∙ ap (λ is. targets_from c.code (jobs_of m j) tree_of [] is (values_for c.host c.code c.nodes m j i) (as_store c y) r) (sym targets_are_these)
 
   -- the three numbers of a loop, and then its turns
   abbrev count_with : (i begin limit : ℕ) (by : Option ℕ) (block l m j : ℕ) → Run H
@@ -153,9 +153,9 @@ module _ {H : Type 0} (c : Setting H) where
       let block_is : block_at c.nodes i ≡ block = rw there.there refl in
       let line_is : line_number c.nodes i ≡ there.line = rw there.there refl in
       ap (λ z. count_with i begin z by block there.line m j (as_store c y) r) (sym limit_is)
-        ∙ ap (λ z. count_with i begin (limit_at c.nodes i) z block there.line m j (as_store c y) r) (sym step_is)
-        ∙ ap (λ z. count_with i begin (limit_at c.nodes i) (step_at c.nodes i) z there.line m j (as_store c y) r) (sym block_is)
-        ∙ ap (λ z. count_with i begin (limit_at c.nodes i) (step_at c.nodes i) (block_at c.nodes i) z m j (as_store c y) r) (sym line_is)
+      ∙ ap (λ z. count_with i begin (limit_at c.nodes i) z block there.line m j (as_store c y) r) (sym step_is)
+      ∙ ap (λ z. count_with i begin (limit_at c.nodes i) (step_at c.nodes i) z there.line m j (as_store c y) r) (sym block_is)
+      ∙ ap (λ z. count_with i begin (limit_at c.nodes i) (step_at c.nodes i) (block_at c.nodes i) z m j (as_store c y) r) (sym line_is)
 
   -- the values of `in`, and then the turns
   abbrev each_in : (i count block l m j : ℕ) → List Value → Run H
@@ -168,9 +168,9 @@ module _ {H : Type 0} (c : Setting H) where
       let block_is : block_at c.nodes i ≡ block = rw there.there refl in
       let line_is : line_number c.nodes i ≡ there.line = rw there.there refl in
       ap (λ z. expressions c.code (jobs_of m j) (list_of tree_of exps) (each_in i z block there.line m j) s r) (sym count_is)
-        ∙ ap (λ z. expressions c.code (jobs_of m j) (list_of tree_of exps) (each_in i (name_count_at c.nodes i) z there.line m j) s r) (sym block_is)
-        ∙ ap (λ z. expressions c.code (jobs_of m j) (list_of tree_of exps) (each_in i (name_count_at c.nodes i) (block_at c.nodes i) z m j) s r) (sym line_is)
-        ∙ expressions_are c.code (jobs_of m j) tree_of exps (begin_each c.host c.code c.nodes m j i) s r
+      ∙ ap (λ z. expressions c.code (jobs_of m j) (list_of tree_of exps) (each_in i (name_count_at c.nodes i) z there.line m j) s r) (sym block_is)
+      ∙ ap (λ z. expressions c.code (jobs_of m j) (list_of tree_of exps) (each_in i (name_count_at c.nodes i) (block_at c.nodes i) z m j) s r) (sym line_is)
+      ∙ expressions_are c.code (jobs_of m j) tree_of exps (begin_each c.host c.code c.nodes m j i) s r
 
   each_begins : (i : ℕ) (names : List (List ℕ)) (block : ℕ) (exps : List ℕ) (y : Configuration) → (there : IsNode c.nodes i (node.GenFor names exps block)) → Ticked i there.line (node.GenFor names exps block) y → Arrives c (node_begun c.nodes c.code i (node.GenFor names exps block) y)
   each_begins i names block [] y there h = pushes c h (frame.Each (each_loop.Values i 0 [])) (mode.Give []) y refl (omega arith) (omega arith)
@@ -206,11 +206,11 @@ module _ {H : Type 0} (c : Setting H) where
   node_begins i (node.GenFor names exps block) y there h = each_begins i names block exps y there h
   node_begins i (node.LocalFunction name function) y there h =
       declares c y (declared c.code (c.code.first_variable i) value.Nil y.heap y.call.locals) (declare c.code (c.code.first_variable i) value.Nil) as_it_is
-        (λ m j s r. after (runs_of m j function s r) (λ vs s r. store_one c.code (jobs_of m j) (slot_target (c.code.first_variable i) (slot_of (locals_of s) (c.code.first_variable i))) (first vs) (at_line there.line s) s r))
-        (λ z. (mode.Begin function, with_frame (frame.Assign (assign.Function i)) z)) as_it_is_passes (says_one c (c.code.first_variable i) value.Nil y) h
-        (λ h. pushes c h (frame.Assign (assign.Function i)) (mode.Begin function) (declared_in (declared c.code (c.code.first_variable i) value.Nil y.heap y.call.locals) y) refl (omega arith) (omega arith)
-          (λ m j r. (let line_is : line_number c.nodes i ≡ there.line = rw there.there refl in
-            ap (λ l. after (runs_of m j function (as_store c (declared_in (declared c.code (c.code.first_variable i) value.Nil y.heap y.call.locals) y)) r) (λ vs s r. store_one c.code (jobs_of m j) (slot_target (c.code.first_variable i) (slot_of (locals_of s) (c.code.first_variable i))) (first vs) (at_line l s) s r)) (sym line_is))))
+      (λ m j s r. after (runs_of m j function s r) (λ vs s r. store_one c.code (jobs_of m j) (slot_target (c.code.first_variable i) (slot_of (locals_of s) (c.code.first_variable i))) (first vs) (at_line there.line s) s r))
+      (λ z. (mode.Begin function, with_frame (frame.Assign (assign.Function i)) z)) as_it_is_passes (says_one c (c.code.first_variable i) value.Nil y) h
+      (λ h. pushes c h (frame.Assign (assign.Function i)) (mode.Begin function) (declared_in (declared c.code (c.code.first_variable i) value.Nil y.heap y.call.locals) y) refl (omega arith) (omega arith)
+      (λ m j r. (let line_is : line_number c.nodes i ≡ there.line = rw there.there refl in
+      ap (λ l. after (runs_of m j function (as_store c (declared_in (declared c.code (c.code.first_variable i) value.Nil y.heap y.call.locals) y)) r) (λ vs s r. store_one c.code (jobs_of m j) (slot_target (c.code.first_variable i) (slot_of (locals_of s) (c.code.first_variable i))) (first vs) (at_line l s) s r)) (sym line_is))))
   node_begins i (node.Return []) y there h = pushes c h (frame.Return i 0 []) (mode.Give []) y refl (omega arith) (omega arith) (λ m j r. expressions_are c.code (jobs_of m j) tree_of [] (λ vs s. if_few (at_line there.line s) vs (halt (Returns vs)) s) (as_store c y) r ∙ rw there.there refl)
   node_begins i (node.Return (e ∷ es)) y there h = pushes c h (frame.Return i 1 []) (mode.Begin e) y refl (omega arith) (omega arith) (λ m j r. expressions_are c.code (jobs_of m j) tree_of (e ∷ es) (λ vs s. if_few (at_line there.line s) vs (halt (Returns vs)) s) (as_store c y) r ∙ rw there.there refl)
   node_begins i node.Break y there h = settles c h mode.Break y (omega arith) (omega arith) (λ m j r. refl)
@@ -222,18 +222,18 @@ module _ {H : Type 0} (c : Setting H) where
   node_begins i (node.Name name) y there h = settles c h (mode.Give (name_value (c.code.variable i) name y ∷ [])) y (omega arith) (omega arith) (λ m j r. ap (λ v. go (v ∷ []) (as_store c y) r) (name_is (c.code.variable i) name y))
   node_begins i (node.Index object key) y there h = pushes c h (frame.Operand (operand.Object i)) (mode.Begin object) y refl (omega arith) (omega arith)
       (λ m j r. (let key_is : key_at c.nodes i ≡ key = rw there.there refl in let line_is : line_number c.nodes i ≡ there.line = rw there.there refl in
-        ap (λ k. index_with object k there.line m j (as_store c y) r) (sym key_is) ∙ ap (λ l. index_with object (key_at c.nodes i) l m j (as_store c y) r) (sym line_is)))
+      ap (λ k. index_with object k there.line m j (as_store c y) r) (sym key_is) ∙ ap (λ l. index_with object (key_at c.nodes i) l m j (as_store c y) r) (sym line_is)))
   node_begins i (node.Call function args) y there h = pushes c h (frame.Callee (callee.Function i)) (mode.Begin function) y refl (omega arith) (omega arith)
       (λ m j r. (let args_are : list_at c.nodes i ≡ args = rw there.there refl in let line_is : line_number c.nodes i ≡ there.line = rw there.there refl in
-        ap (λ is. call_of_args function is there.line m j (as_store c y) r) (sym args_are) ∙ ap (λ l. call_of_args function (list_at c.nodes i) l m j (as_store c y) r) (sym line_is)))
+      ap (λ is. call_of_args function is there.line m j (as_store c y) r) (sym args_are) ∙ ap (λ l. call_of_args function (list_at c.nodes i) l m j (as_store c y) r) (sym line_is)))
   node_begins i (node.Method object name args) y there h = pushes c h (frame.Callee (callee.Receiver i)) (mode.Begin object) y refl (omega arith) (omega arith)
       (λ m j r. (let name_is : name_there c.nodes i ≡ name = rw there.there refl in let args_are : list_at c.nodes i ≡ args = rw there.there refl in let line_is : line_number c.nodes i ≡ there.line = rw there.there refl in
-        ap (λ x. method_of_args object x args there.line m j (as_store c y) r) (sym name_is) ∙ ap (λ is. method_of_args object (name_there c.nodes i) is there.line m j (as_store c y) r) (sym args_are)
-          ∙ ap (λ l. method_of_args object (name_there c.nodes i) (list_at c.nodes i) l m j (as_store c y) r) (sym line_is)))
+      ap (λ x. method_of_args object x args there.line m j (as_store c y) r) (sym name_is) ∙ ap (λ is. method_of_args object (name_there c.nodes i) is there.line m j (as_store c y) r) (sym args_are)
+      ∙ ap (λ l. method_of_args object (name_there c.nodes i) (list_at c.nodes i) l m j (as_store c y) r) (sym line_is)))
   node_begins i (node.Binary op left right) y there h = pushes c h (frame.Operand (operand.Left i)) (mode.Begin left) y refl (omega arith) (omega arith)
       (λ m j r. (let op_is : binary_at c.nodes i ≡ op = rw there.there refl in let right_is : right_at c.nodes i ≡ right = rw there.there refl in let line_is : line_number c.nodes i ≡ there.line = rw there.there refl in
-        ap (λ o. binary_with o left right there.line m j (as_store c y) r) (sym op_is) ∙ ap (λ k. binary_with (binary_at c.nodes i) left k there.line m j (as_store c y) r) (sym right_is)
-          ∙ ap (λ l. binary_with (binary_at c.nodes i) left (right_at c.nodes i) l m j (as_store c y) r) (sym line_is)))
+      ap (λ o. binary_with o left right there.line m j (as_store c y) r) (sym op_is) ∙ ap (λ k. binary_with (binary_at c.nodes i) left k there.line m j (as_store c y) r) (sym right_is)
+      ∙ ap (λ l. binary_with (binary_at c.nodes i) left (right_at c.nodes i) l m j (as_store c y) r) (sym line_is)))
   node_begins i (node.Logic op left right) y there h = pushes c h (frame.Operand (operand.Logic i)) (mode.Begin left) y refl (omega arith) (omega arith) (λ m j r. rw there.there refl)
   node_begins i (node.Unary op one) y there h = pushes c h (frame.Operand (operand.One i)) (mode.Begin one) y refl (omega arith) (omega arith) (λ m j r. rw there.there refl)
   node_begins i (node.Paren inner) y there h = pushes c h (frame.Operand operand.Only) (mode.Begin inner) y refl (omega arith) (omega arith) (λ m j r. refl)
@@ -244,8 +244,8 @@ module _ {H : Type 0} (c : Setting H) where
   begins_at trees i x None e h = settles c h (mode.Give []) x (omega arith) (omega arith) (λ m j r. ap (λ t. eval c.code (jobs_of m j) t (as_store c x) r) (tree_missing c.nodes i e))
   begins_at trees i x (Some l) e h =
       ticks c x as_it_is (λ m j. inside i l.line m j l.node) (node_begun c.nodes c.code i l.node) as_it_is_passes
-        (turned c h (λ m j r. tick (inside i l.line m j l.node) (as_store c x) r) (λ m j r. ap (λ t. eval c.code (jobs_of m j) t (as_store c x) r) (trees i l e) ∙ is_ticked i l.line m j l.node (as_store c x) r))
-        (λ h. node_begins i l.node (with_tick x) (record { line = l.line; there = e; tree = trees i l e }) h)
+      (turned c h (λ m j r. tick (inside i l.line m j l.node) (as_store c x) r) (λ m j r. ap (λ t. eval c.code (jobs_of m j) t (as_store c x) r) (trees i l e) ∙ is_ticked i l.line m j l.node (as_store c x) r))
+      (λ h. node_begins i l.node (with_tick x) (record { line = l.line; there = e; tree = trees i l e }) h)
 
   pub arrives_begin : (trees : AreTrees c.nodes) (i : ℕ) (x : Configuration) → Arrives c (mode.Begin i, x) → Arrives c (step c.nodes c.code (mode.Begin i) x)
   arrives_begin trees i x h = begins_at trees i x (slice_get c.nodes i) refl h

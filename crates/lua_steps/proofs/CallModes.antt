@@ -56,9 +56,9 @@ module _ {H : Type 0} (c : Setting H) where
   entered_arrives cl l args inner x (node.Function params vararg block) h =
       let y : Configuration = with_call (body_call (captured_locals (c.code.captured cl.function) cl.cells) (varargs_of vararg (length params) args) inner x.call.across) x in
       declares c y (declared_all c.code (c.code.first_variable cl.function) (length params) args y.heap y.call.locals) (declare_all c.code (c.code.first_variable cl.function) (length params) args) (λ m j o. body_ends x.call o) (λ m j. runs c.host c.code c.nodes m j block)
-        (λ z. (mode.Begin block, with_frame (frame.Body (body.Caller x.call)) z)) (record { raises = λ m j v s r. refl; stops = λ m j st s r. refl }) (says_all c (length params) (c.code.first_variable cl.function) args y) h
-        (λ h. pushes_at c h (frame.Body (body.Caller x.call)) (mode.Begin block) (declared_in (declared_all c.code (c.code.first_variable cl.function) (length params) args y.heap y.call.locals) y) refl
-          (λ m i r lt. ((declared_all c.code (c.code.first_variable cl.function) (length params) args y.heap y.call.locals).heap.used.most_instructions + 2, i, omega arith, omega (arith, lt), refl)))
+      (λ z. (mode.Begin block, with_frame (frame.Body (body.Caller x.call)) z)) (record { raises = λ m j v s r. refl; stops = λ m j st s r. refl }) (says_all c (length params) (c.code.first_variable cl.function) args y) h
+      (λ h. pushes_at c h (frame.Body (body.Caller x.call)) (mode.Begin block) (declared_in (declared_all c.code (c.code.first_variable cl.function) (length params) args y.heap y.call.locals) y) refl
+      (λ m i r lt. ((declared_all c.code (c.code.first_variable cl.function) (length params) args y.heap y.call.locals).heap.used.most_instructions + 2, i, omega arith, omega (arith, lt), refl)))
   entered_arrives cl l args inner x n h = settles c h (mode.Give []) x (omega arith) (omega arith) (λ m j r. refl)
 
   enters_at : (trees : AreTrees c.nodes) (functions : AreFunctions c.code c.nodes) (cl : ClosureOf) (args : List Value) (inner : List ℕ) (x : Configuration) (o : Option LinedNode) → slice_get c.nodes cl.function ≡ o →
@@ -67,7 +67,7 @@ module _ {H : Type 0} (c : Setting H) where
       (λ m j r. ap (λ t. enter_function c.host c.code (jobs_of m j) (resume c.host c.code m) t cl args inner (as_store c x) r) (functions cl.function ∙ tree_missing c.nodes cl.function e))
   enters_at trees functions cl args inner x (Some l) e h = entered_arrives cl l.line args inner x l.node
       (turned c h (λ m j r. enter_function c.host c.code (jobs_of m j) (resume c.host c.code m) (node_tree (part c.nodes) cl.function l.line l.node) cl args inner (as_store c x) r)
-        (λ m j r. ap (λ t. enter_function c.host c.code (jobs_of m j) (resume c.host c.code m) t cl args inner (as_store c x) r) (functions cl.function ∙ trees cl.function l e)))
+      (λ m j r. ap (λ t. enter_function c.host c.code (jobs_of m j) (resume c.host c.code m) t cl args inner (as_store c x) r) (functions cl.function ∙ trees cl.function l e)))
 
   closure_arrives : (trees : AreTrees c.nodes) (functions : AreFunctions c.code c.nodes) (args : List Value) (inner : List ℕ) (x : Configuration) (o : Option ClosureOf) →
       Runs c 0 0 x.heap.used x.frames (λ m j r. enter c.host c.code (jobs_of m j) (resume c.host c.code m) o args inner (as_store c x) r) → Arrives c (entered c.nodes c.code o args inner x)
@@ -85,8 +85,8 @@ module _ {H : Type 0} (c : Setting H) where
       Runs c 0 0 x.heap.used x.frames (λ m j r. tick (few_run lines (f ∷ args) (jobs_of m j (Apply handler (f ∷ args) lines (inner_of own lines)))) (as_store c x) r) → Arrives c (ticking (if_few lines (f ∷ args) (mode.Call handler (f ∷ args) lines own)) x)
   called_through handler f args lines own x h =
       ticks c x as_it_is (λ m j. few_run lines (f ∷ args) (jobs_of m j (Apply handler (f ∷ args) lines (inner_of own lines)))) (if_few lines (f ∷ args) (mode.Call handler (f ∷ args) lines own)) as_it_is_passes h
-        (λ h. few c (with_tick x) as_it_is lines (f ∷ args) (λ m j. jobs_of m j (Apply handler (f ∷ args) lines (inner_of own lines))) (mode.Call handler (f ∷ args) lines own) as_it_is_passes h
-          (λ h. settles c h (mode.Call handler (f ∷ args) lines own) (with_tick x) (omega arith) (omega arith) (λ m j r. refl)))
+      (λ h. few c (with_tick x) as_it_is lines (f ∷ args) (λ m j. jobs_of m j (Apply handler (f ∷ args) lines (inner_of own lines))) (mode.Call handler (f ∷ args) lines own) as_it_is_passes h
+      (λ h. settles c h (mode.Call handler (f ∷ args) lines own) (with_tick x) (omega arith) (omega arith) (λ m j r. refl)))
 
   handler_arrives : (handler f : Value) (args : List Value) (lines : List ℕ) (own : Bool) (x : Configuration) →
       Runs c 0 0 x.heap.used x.frames (λ m j r. by_call c.host c.code (jobs_of m j) (resume c.host c.code m) handler f args lines (inner_of own lines) (as_store c x) r) → Arrives c (call_by c.nodes handler f args lines own x)

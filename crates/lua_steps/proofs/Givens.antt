@@ -87,7 +87,7 @@ module _ {H : Type 0} (c : Setting H) where
       (λ m j r. expressions_are c.code (jobs_of m j) (part c.nodes) (list_at c.nodes node) (λ ws. make_call c.host c.code c.nodes m j node (first vs) ([] ++ ws)) (as_store c y) r ∙ (let none : list_at c.nodes node ≡ [] = none_there (list_at c.nodes node) 0 e in rw none refl))
   function_given vs y node (Some i) e h = pushes c h (frame.Args node 1 (first vs) []) (mode.Begin i) y refl (omega arith) (omega arith)
       (λ m j r. expressions_are c.code (jobs_of m j) (part c.nodes) (list_at c.nodes node) (λ ws. make_call c.host c.code c.nodes m j node (first vs) ([] ++ ws)) (as_store c y) r
-        ∙ ap (λ is. begin_all c.code (jobs_of m j) (part c.nodes) [] is (λ ws. make_call c.host c.code c.nodes m j node (first vs) ([] ++ ws)) (as_store c y) r) (next_there (list_at c.nodes node) 0 i e))
+      ∙ ap (λ is. begin_all c.code (jobs_of m j) (part c.nodes) [] is (λ ws. make_call c.host c.code c.nodes m j node (first vs) ([] ++ ws)) (as_store c y) r) (next_there (list_at c.nodes node) 0 i e))
 
   after_receiver : (again : Again H) (receiver : Value) (js : List ℕ) (k : List Value → Run H) (o : Result H) → after o (more c.code again (part c.nodes) [] js (λ ws. k (receiver ∷ ws))) ≡ after o (more c.code again (part c.nodes) (receiver ∷ []) js k)
   after_receiver again receiver js k (Go ws s r) = more_behind c.code again (part c.nodes) receiver [] js k ws s r
@@ -98,8 +98,8 @@ module _ {H : Type 0} (c : Setting H) where
       (λ m j r. expressions_are c.code (jobs_of m j) (part c.nodes) (list_at c.nodes node) (λ ws. make_call c.host c.code c.nodes m j node (first vs) ((receiver ∷ []) ++ ws)) (as_store c y) r ∙ (let none : list_at c.nodes node ≡ [] = none_there (list_at c.nodes node) 0 e in rw none refl))
   method_given vs y node receiver (Some i) e h = pushes c h (frame.Args node 1 (first vs) (receiver ∷ [])) (mode.Begin i) y refl (omega arith) (omega arith)
       (λ m j r. expressions_are c.code (jobs_of m j) (part c.nodes) (list_at c.nodes node) (λ ws. make_call c.host c.code c.nodes m j node (first vs) ((receiver ∷ []) ++ ws)) (as_store c y) r
-        ∙ ap (λ is. begin_all c.code (jobs_of m j) (part c.nodes) [] is (λ ws. make_call c.host c.code c.nodes m j node (first vs) ((receiver ∷ []) ++ ws)) (as_store c y) r) (next_there (list_at c.nodes node) 0 i e)
-        ∙ after_receiver (jobs_of m j) receiver (drop 1 (list_at c.nodes node)) (make_call c.host c.code c.nodes m j node (first vs)) (runs_of m j i (as_store c y) r))
+      ∙ ap (λ is. begin_all c.code (jobs_of m j) (part c.nodes) [] is (λ ws. make_call c.host c.code c.nodes m j node (first vs) ((receiver ∷ []) ++ ws)) (as_store c y) r) (next_there (list_at c.nodes node) 0 i e)
+      ∙ after_receiver (jobs_of m j) receiver (drop 1 (list_at c.nodes node)) (make_call c.host c.code c.nodes m j node (first vs)) (runs_of m j i (as_store c y) r))
 
   -- what an `if` does without a test that holds
   pub otherwise_arrives : {p : ℕ} (y : Configuration) (o : Option ℕ) → Runs c 1 p y.heap.used y.frames (λ m j r. maybe_eval c.code (jobs_of m j) (maybe_of (part c.nodes) o) (as_store c y) r) → Arrives c (otherwise_or_none o, y)

@@ -76,12 +76,13 @@ module _ (nodes : List LinedNode) (trees : AreTrees nodes) (x : List ℕ) where
   found_from all found ts [] place locals e n d f = absurd (never found f)
   found_from all found ts (i ∷ is) place locals e n d f =
       by (λ l. found_from all found (snoc ts (part nodes i)) is (place + 1) (locals + of_part nodes 0 locals_left i) (rw e (rw l refl)) (rw e (rw l (ap (λ k. k + locals_declared (part nodes i)) n ∙ ap (λ k. locals + k) (locals_are i)))) (further place all is i d))
-        (of_part nodes false (is_label_of x) i) (label_is i) f
+      (of_part nodes false (is_label_of x) i) (label_is i) f
     where
       here : (found : ℕ × ℕ) → (place, locals) ≡ found → is_label x (part nodes i) ≡ true → IsFound all found (list_after (part nodes) (snoc ts (part nodes i)) is)
-      here found same l = subst (λ z. IsFound all z (list_after (part nodes) (snoc ts (part nodes i)) is)) same
-        (found_behind (snoc none (part nodes i)) (snoc ts (part nodes i)) is (rw e (rw l refl)) ∙ ap (λ z. Some (list_after (part nodes) none z)) (sym d),
-         locals_behind (snoc none (part nodes i)) (snoc ts (part nodes i)) is (rw e (rw l refl)) ∙ rw e (rw l n))
+      here found same l = subst (λ z. IsFound all z (list_after (part nodes) (snoc ts (part nodes i)) is)) same (
+        found_behind (snoc none (part nodes i)) (snoc ts (part nodes i)) is (rw e (rw l refl)) ∙ ap (λ z. Some (list_after (part nodes) none z)) (sym d),
+        locals_behind (snoc none (part nodes i)) (snoc ts (part nodes i)) is (rw e (rw l refl)) ∙ rw e (rw l n),
+      )
 
       by : (is_label x (part nodes i) ≡ false → label_from nodes x (place + 1) (locals + of_part nodes 0 locals_left i) is ≡ Some found → IsFound all found (list_after (part nodes) (snoc ts (part nodes i)) is)) → (b : Bool) → is_label x (part nodes i) ≡ b → label_by nodes b place locals (label_from nodes x (place + 1) (locals + of_part nodes 0 locals_left i) is) ≡ Some found → IsFound all found (list_after (part nodes) (snoc ts (part nodes i)) is)
       by rest true l f = here found (let pairs : Some (place, locals) ≡ Some found = f in cc) l

@@ -64,15 +64,15 @@ module _ {H : Type 0} (c : Setting H) where
   unfolding jobs
   arrives_turn node outer x h =
       ticks c x (loop_around outer) (λ m j. jobs_of m j (Turn (test_of node) (block_of node))) (λ y. (mode.Begin (test_at c.nodes node), with_frame (frame.While (while_loop.Test node outer)) y)) (loop_passes outer) h
-        (λ h. pushes c (lowers c 1 h (λ m j r. loop_ends outer (turn c.code (jobs_of m j) (test_of node) (block_of node) (as_store c (with_tick x)) r)) (λ m j r. refl))
-          (frame.While (while_loop.Test node outer)) (mode.Begin (test_at c.nodes node)) (with_tick x) refl (omega arith) (omega arith) (λ m j r. refl))
+      (λ h. pushes c (lowers c 1 h (λ m j r. loop_ends outer (turn c.code (jobs_of m j) (test_of node) (block_of node) (as_store c (with_tick x)) r)) (λ m j r. refl))
+      (frame.While (while_loop.Test node outer)) (mode.Begin (test_at c.nodes node)) (with_tick x) refl (omega arith) (omega arith) (λ m j r. refl))
 
   pub arrives_round : (node outer : ℕ) (x : Configuration) → Arrives c (mode.Round node outer, x) → Arrives c (step c.nodes c.code (mode.Round node outer) x)
   unfolding jobs
   arrives_round node outer x h =
       ticks c x (loop_around outer) (λ m j. jobs_of m j (Round (block_of node) (test_of node))) (λ y. (mode.Open (block_at c.nodes node), with_frame (frame.Repeat (repeat_loop.Turn node outer (length y.call.locals))) y)) (loop_passes outer) h
-        (λ h. pushes c (lowers c 1 h (λ m j r. loop_ends outer (round c.code (jobs_of m j) (block_of node) (test_of node) (as_store c (with_tick x)) r)) (λ m j r. refl))
-          (frame.Repeat (repeat_loop.Turn node outer (length x.call.locals))) (mode.Open (block_at c.nodes node)) (with_tick x) refl (omega arith) (omega arith) (λ m j r. refl))
+      (λ h. pushes c (lowers c 1 h (λ m j r. loop_ends outer (round c.code (jobs_of m j) (block_of node) (test_of node) (as_store c (with_tick x)) r)) (λ m j r. refl))
+      (frame.Repeat (repeat_loop.Turn node outer (length x.call.locals))) (mode.Open (block_at c.nodes node)) (with_tick x) refl (omega arith) (omega arith) (λ m j r. refl))
 
   open_else : (again : Again H) (t : Tree) (s : Store H) (r : Resumptions H) → is_block t ≡ false → open_body c.code again t s r ≡ eval c.code again t s r
   open_else again (syntax.Block i l stats) s r e = absurd (true≢false e)
@@ -86,10 +86,10 @@ module _ {H : Type 0} (c : Setting H) where
       Arrives c (ticking (λ y. (mode.Give [], with_frame (frame.Body (body.Open i 0 (length y.call.locals))) y)) x)
   open_block i l x e h =
       ticks c x as_it_is (λ m j s r. landed c.code (jobs_of m j) (list_of (part c.nodes) (list_at c.nodes i)) (local_count s) (statements c.code (jobs_of m j) (list_of (part c.nodes) (list_at c.nodes i)) (go []) s r))
-        (λ y. (mode.Give [], with_frame (frame.Body (body.Open i 0 (length y.call.locals))) y)) as_it_is_passes
-        (turned c h (λ m j r. open_body c.code (jobs_of m j) (syntax.Block i l (list_of (part c.nodes) (list_at c.nodes i))) (as_store c x) r) (λ m j r. ap (λ t. open_body c.code (jobs_of m j) t (as_store c x) r) e))
-        (λ h. pushes c h (frame.Body (body.Open i 0 (length x.call.locals))) (mode.Give []) (with_tick x) refl (omega arith) (omega arith)
-          (λ m j r. ap (λ o. landed c.code (jobs_of m j) (list_of (part c.nodes) (list_at c.nodes i)) (length x.call.locals) o) (statements_are c.code (jobs_of m j) (part c.nodes) (list_at c.nodes i) (go []) (as_store c (with_tick x)) r)))
+      (λ y. (mode.Give [], with_frame (frame.Body (body.Open i 0 (length y.call.locals))) y)) as_it_is_passes
+      (turned c h (λ m j r. open_body c.code (jobs_of m j) (syntax.Block i l (list_of (part c.nodes) (list_at c.nodes i))) (as_store c x) r) (λ m j r. ap (λ t. open_body c.code (jobs_of m j) t (as_store c x) r) e))
+      (λ h. pushes c h (frame.Body (body.Open i 0 (length x.call.locals))) (mode.Give []) (with_tick x) refl (omega arith) (omega arith)
+      (λ m j r. ap (λ o. landed c.code (jobs_of m j) (list_of (part c.nodes) (list_at c.nodes i)) (length x.call.locals) o) (statements_are c.code (jobs_of m j) (part c.nodes) (list_at c.nodes i) (go []) (as_store c (with_tick x)) r)))
 
   open_node : (i : ℕ) (n : Node) (x : Configuration) → IsNode c.nodes i n → Arrives c (mode.Open i, x) → Arrives c (if is_block_node (Some n) then ticking (λ y. (mode.Give [], with_frame (frame.Body (body.Open i 0 (length y.call.locals))) y)) x else (mode.Begin i, x))
   open_node i (node.Block stats) x there h = open_block i (line_number c.nodes i) x (rw there.there there.tree) h
@@ -121,12 +121,12 @@ module _ {H : Type 0} (c : Setting H) where
   count_by node at to by outer x false h = settles c h (mode.Give []) x (omega arith) (omega arith) (λ m j r. refl)
   count_by node at to by outer x true h =
       ticks c x (loop_around outer) (λ m j. jobs_of m j (Count (c.code.first_variable node) (block_of node) at to by))
-        (λ y. declaring (declared c.code (c.code.first_variable node) (value.Int at) y.heap y.call.locals) (λ z. (mode.Begin (block_at c.nodes node), with_frame (frame.Count (count_loop.Turn node at to by outer (length y.call.locals))) z)) y) (loop_passes outer) h
-        (λ h. declares c (with_tick x) (declared c.code (c.code.first_variable node) (value.Int at) (with_tick x).heap x.call.locals) (declare c.code (c.code.first_variable node) (value.Int at)) (counted node at to by outer (length x.call.locals)) (λ m j. runs c.host c.code c.nodes m j (block_at c.nodes node))
-          (λ z. (mode.Begin (block_at c.nodes node), with_frame (frame.Count (count_loop.Turn node at to by outer (length x.call.locals))) z))
-          (record { raises = λ m j v s r. refl; stops = λ m j st s r. refl }) (says_one c (c.code.first_variable node) (value.Int at) (with_tick x))
-          (lowers c 1 h (λ m j r. loop_ends outer (count_turn c.code (jobs_of m j) (c.code.first_variable node) (block_of node) at to by (as_store c (with_tick x)) r)) (λ m j r. refl))
-          (λ h. pushes c h (frame.Count (count_loop.Turn node at to by outer (length x.call.locals))) (mode.Begin (block_at c.nodes node)) (declared_in (declared c.code (c.code.first_variable node) (value.Int at) (with_tick x).heap x.call.locals) (with_tick x)) refl (omega arith) (omega arith) (λ m j r. refl)))
+      (λ y. declaring (declared c.code (c.code.first_variable node) (value.Int at) y.heap y.call.locals) (λ z. (mode.Begin (block_at c.nodes node), with_frame (frame.Count (count_loop.Turn node at to by outer (length y.call.locals))) z)) y) (loop_passes outer) h
+      (λ h. declares c (with_tick x) (declared c.code (c.code.first_variable node) (value.Int at) (with_tick x).heap x.call.locals) (declare c.code (c.code.first_variable node) (value.Int at)) (counted node at to by outer (length x.call.locals)) (λ m j. runs c.host c.code c.nodes m j (block_at c.nodes node))
+      (λ z. (mode.Begin (block_at c.nodes node), with_frame (frame.Count (count_loop.Turn node at to by outer (length x.call.locals))) z))
+      (record { raises = λ m j v s r. refl; stops = λ m j st s r. refl }) (says_one c (c.code.first_variable node) (value.Int at) (with_tick x))
+      (lowers c 1 h (λ m j r. loop_ends outer (count_turn c.code (jobs_of m j) (c.code.first_variable node) (block_of node) at to by (as_store c (with_tick x)) r)) (λ m j r. refl))
+      (λ h. pushes c h (frame.Count (count_loop.Turn node at to by outer (length x.call.locals))) (mode.Begin (block_at c.nodes node)) (declared_in (declared c.code (c.code.first_variable node) (value.Int at) (with_tick x).heap x.call.locals) (with_tick x)) refl (omega arith) (omega arith) (λ m j r. refl)))
 
   pub arrives_count : (node : ℕ) (at to by : ℤ) (outer : ℕ) (x : Configuration) → Arrives c (mode.Count node at to by outer, x) → Arrives c (step c.nodes c.code (mode.Count node at to by outer) x)
   arrives_count node at to by outer x h = count_by node at to by outer x (makes_turn at to by) h
@@ -135,12 +135,12 @@ module _ {H : Type 0} (c : Setting H) where
   unfolding jobs
   arrives_next node f state control outer x h =
       ticks c x (loop_around outer) (λ m j. jobs_of m j (Each (c.code.first_variable node) (name_count_at c.nodes node) (block_of node) f state control (line_number c.nodes node)))
-        (λ y. (mode.Call f (state ∷ control ∷ []) (lines_at c.nodes node y.call) false, with_frame (frame.Each (each_loop.Next node f state outer)) y)) (loop_passes outer) h
-        (λ h. pushes_at c h (frame.Each (each_loop.Next node f state outer)) (mode.Call f (state ∷ control ∷ []) (lines_at c.nodes node x.call) false) (with_tick x) refl (falls h.grows.within.instructions))
+      (λ y. (mode.Call f (state ∷ control ∷ []) (lines_at c.nodes node y.call) false, with_frame (frame.Each (each_loop.Next node f state outer)) y)) (loop_passes outer) h
+      (λ h. pushes_at c h (frame.Each (each_loop.Next node f state outer)) (mode.Call f (state ∷ control ∷ []) (lines_at c.nodes node x.call) false) (with_tick x) refl (falls h.grows.within.instructions))
     where
       falls : x.heap.used.instructions + 1 ≤ x.heap.used.most_instructions → (m i : ℕ) (r : Resumptions H) → x.heap.used.most_instructions + 2 < x.heap.used.instructions + 1 + i → (j k : ℕ) × (x.heap.used.most_instructions + 1 < x.heap.used.instructions + 1 + j) × (x.heap.used.most_instructions + 1 < x.heap.used.instructions + 1 + k)
           × (loop_ends outer (jobs_of m i (Each (c.code.first_variable node) (name_count_at c.nodes node) (block_of node) f state control (line_number c.nodes node)) (as_store c (with_tick x)) r)
-            ≡ goes_on c.host c.code c.nodes m j (frame.Each (each_loop.Next node f state outer)) (means c.host c.code c.nodes m k (mode.Call f (state ∷ control ∷ []) (lines_at c.nodes node x.call) false) (as_store c (with_tick x)) r))
+          ≡ goes_on c.host c.code c.nodes m j (frame.Each (each_loop.Next node f state outer)) (means c.host c.code c.nodes m k (mode.Call f (state ∷ control ∷ []) (lines_at c.nodes node x.call) false) (as_store c (with_tick x)) r))
       falls le m zero r lt = absurd (omega (arith, le, lt))
       falls le m (suc i) r lt = (i, suc i, omega (arith, lt), omega (arith, lt), refl)
 
@@ -150,10 +150,10 @@ module _ {H : Type 0} (c : Setting H) where
       Arrives c (declaring (declared_all c.code (c.code.first_variable node) (name_count_at c.nodes node) vs x.heap x.call.locals) (λ z. (mode.Begin (block_at c.nodes node), with_frame (frame.Each (each_loop.Turn node f state control outer (length x.call.locals))) z)) x)
   each_turns control node f state outer vs x h =
       declares c x (declared_all c.code (c.code.first_variable node) (name_count_at c.nodes node) vs x.heap x.call.locals) (declare_all c.code (c.code.first_variable node) (name_count_at c.nodes node) vs)
-        (λ m j o. loop_ends outer (after o (λ d s. begin_next c.host c.code c.nodes m j node f state control (cut_in (length x.call.locals) s)))) (λ m j. runs c.host c.code c.nodes m j (block_at c.nodes node))
-        (λ z. (mode.Begin (block_at c.nodes node), with_frame (frame.Each (each_loop.Turn node f state control outer (length x.call.locals))) z))
-        (record { raises = λ m j v s r. refl; stops = λ m j st s r. refl }) (says_all c (name_count_at c.nodes node) (c.code.first_variable node) vs x) h
-        (λ h. pushes c h (frame.Each (each_loop.Turn node f state control outer (length x.call.locals))) (mode.Begin (block_at c.nodes node)) (declared_in (declared_all c.code (c.code.first_variable node) (name_count_at c.nodes node) vs x.heap x.call.locals) x) refl (omega arith) (omega arith) (λ m j r. refl))
+      (λ m j o. loop_ends outer (after o (λ d s. begin_next c.host c.code c.nodes m j node f state control (cut_in (length x.call.locals) s)))) (λ m j. runs c.host c.code c.nodes m j (block_at c.nodes node))
+      (λ z. (mode.Begin (block_at c.nodes node), with_frame (frame.Each (each_loop.Turn node f state control outer (length x.call.locals))) z))
+      (record { raises = λ m j v s r. refl; stops = λ m j st s r. refl }) (says_all c (name_count_at c.nodes node) (c.code.first_variable node) vs x) h
+      (λ h. pushes c h (frame.Each (each_loop.Turn node f state control outer (length x.call.locals))) (mode.Begin (block_at c.nodes node)) (declared_in (declared_all c.code (c.code.first_variable node) (name_count_at c.nodes node) vs x.heap x.call.locals) x) refl (omega arith) (omega arith) (λ m j r. refl))
 
   each_arrives : (control : Value) (node : ℕ) (f state : Value) (outer : ℕ) (vs : List Value) (x : Configuration) →
       Runs c 1 0 x.heap.used x.frames (λ m j r. loop_ends outer (each_with c.code (jobs_of m j) control (c.code.first_variable node) (name_count_at c.nodes node) (block_of node) f state (line_number c.nodes node) vs (as_store c x) r)) → Arrives c (each_by c.nodes c.code control node f state outer vs x)

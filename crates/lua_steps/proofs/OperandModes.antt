@@ -32,7 +32,7 @@ module _ {H : Type 0} (c : Setting H) where
   answer_arrives op lines (Done v) y h = settles c h (mode.Give (told_of op v ∷ [])) y (omega arith) (omega arith) (λ m j r. refl)
   answer_arrives op lines (Meta f args negated) y h =
       ticks c y as_it_is (λ m j s r. after (jobs_of m j (Apply f args lines lines) s r) (λ vs. go (told_of op (negated_if negated (first vs)) ∷ []))) (λ y. (mode.Call f args lines false, with_frame (frame.Operand (operand.Metamethod op negated)) y)) as_it_is_passes h
-        (λ h. pushes c h (frame.Operand (operand.Metamethod op negated)) (mode.Call f args lines false) (with_tick y) refl (omega arith) (omega arith) (λ m j r. refl))
+      (λ h. pushes c h (frame.Operand (operand.Metamethod op negated)) (mode.Call f args lines false) (with_tick y) refl (omega arith) (omega arith) (λ m j r. refl))
   answer_arrives op lines (Raise v) y h = settles c h (mode.Raise v) y (omega arith) (omega arith) (λ m j r. refl)
   answer_arrives op lines (Stopped st) y h = settles c h (mode.Stopped st) y (omega arith) (omega arith) (λ m j r. refl)
 
@@ -50,14 +50,14 @@ module _ {H : Type 0} (c : Setting H) where
       Arrives c (ticking (λ y. (mode.Call f (value.Table t ∷ key ∷ []) (lines_at c.nodes node y.call) false, with_frame (frame.Operand operand.Only) y)) x)
   index_calls f node t key x h =
       ticks c x as_it_is (λ m j s r. after (jobs_of m j (Apply f (value.Table t ∷ key ∷ []) (lines_at c.nodes node x.call) (lines_at c.nodes node x.call)) s r) (λ vs. go (first vs ∷ []))) (λ y. (mode.Call f (value.Table t ∷ key ∷ []) (lines_at c.nodes node y.call) false, with_frame (frame.Operand operand.Only) y)) as_it_is_passes h
-        (λ h. pushes c h (frame.Operand operand.Only) (mode.Call f (value.Table t ∷ key ∷ []) (lines_at c.nodes node x.call) false) (with_tick x) refl (omega arith) (omega arith) (λ m j r. refl))
+      (λ h. pushes c h (frame.Operand operand.Only) (mode.Call f (value.Table t ∷ key ∷ []) (lines_at c.nodes node x.call) false) (with_tick x) refl (omega arith) (omega arith) (λ m j r. refl))
 
   index_goes_further : (f : Value) (node t : ℕ) (key : Value) (x : Configuration) → Runs c 0 0 x.heap.used x.frames (λ m j r. look_further (jobs_of m j) false f t key (lines_at c.nodes node x.call) (as_store c x) r) →
       Arrives c (ticking (λ y. (mode.Look node f key, y)) x)
   unfolding jobs
   index_goes_further f node t key x h =
       ticks c x as_it_is (λ m j. jobs_of m j (Look f key (lines_at c.nodes node x.call))) (λ y. (mode.Look node f key, y)) as_it_is_passes h
-        (λ h. settles c (lowers c 0 h (λ m j r. look (jobs_of m j) f key (lines_at c.nodes node x.call) (as_store c (with_tick x)) r) (λ m j r. refl)) (mode.Look node f key) (with_tick x) (omega arith) (omega arith) (λ m j r. refl))
+      (λ h. settles c (lowers c 0 h (λ m j r. look (jobs_of m j) f key (lines_at c.nodes node x.call) (as_store c (with_tick x)) r) (λ m j r. refl)) (mode.Look node f key) (with_tick x) (omega arith) (omega arith) (λ m j r. refl))
 
   index_arrives : (f : Value) (node t : ℕ) (key : Value) (x : Configuration) → Runs c 0 0 x.heap.used x.frames (λ m j r. look_by (jobs_of m j) f t key (lines_at c.nodes node x.call) (as_store c x) r) → Arrives c (index_by c.nodes f (is_function f) node t key x)
   index_arrives value.Nil node t key x h = settles c h (mode.Give (value.Nil ∷ [])) x (omega arith) (omega arith) (λ m j r. refl)
@@ -82,14 +82,14 @@ module _ {H : Type 0} (c : Setting H) where
       Arrives c (ticking (λ y. (mode.Call f (value.Table t ∷ key ∷ v ∷ []) (lines_at c.nodes node y.call) false, with_frame (frame.Assign (assign.Stores node [] [])) y)) x)
   put_calls f node t key v x h =
       ticks c x as_it_is (λ m j s r. after (jobs_of m j (Apply f (value.Table t ∷ key ∷ v ∷ []) (lines_at c.nodes node x.call) (lines_at c.nodes node x.call)) s r) (λ vs. go [])) (λ y. (mode.Call f (value.Table t ∷ key ∷ v ∷ []) (lines_at c.nodes node y.call) false, with_frame (frame.Assign (assign.Stores node [] [])) y)) as_it_is_passes h
-        (λ h. pushes c h (frame.Assign (assign.Stores node [] [])) (mode.Call f (value.Table t ∷ key ∷ v ∷ []) (lines_at c.nodes node x.call) false) (with_tick x) refl (omega arith) (omega arith) (λ m j r. refl))
+      (λ h. pushes c h (frame.Assign (assign.Stores node [] [])) (mode.Call f (value.Table t ∷ key ∷ v ∷ []) (lines_at c.nodes node x.call) false) (with_tick x) refl (omega arith) (omega arith) (λ m j r. refl))
 
   put_goes_further : (f : Value) (node t : ℕ) (key v : Value) (x : Configuration) → Runs c 0 0 x.heap.used x.frames (λ m j r. put_further (jobs_of m j) false f t key v (lines_at c.nodes node x.call) (as_store c x) r) →
       Arrives c (ticking (λ y. (mode.Put node f key v, y)) x)
   unfolding jobs
   put_goes_further f node t key v x h =
       ticks c x as_it_is (λ m j. jobs_of m j (Put f key v (lines_at c.nodes node x.call))) (λ y. (mode.Put node f key v, y)) as_it_is_passes h
-        (λ h. settles c (lowers c 0 h (λ m j r. put_at (jobs_of m j) f key v (lines_at c.nodes node x.call) (as_store c (with_tick x)) r) (λ m j r. refl)) (mode.Put node f key v) (with_tick x) (omega arith) (omega arith) (λ m j r. refl))
+      (λ h. settles c (lowers c 0 h (λ m j r. put_at (jobs_of m j) f key v (lines_at c.nodes node x.call) (as_store c (with_tick x)) r) (λ m j r. refl)) (mode.Put node f key v) (with_tick x) (omega arith) (omega arith) (λ m j r. refl))
 
   new_index_arrives : (f : Value) (node t : ℕ) (key v : Value) (x : Configuration) → Runs c 0 0 x.heap.used x.frames (λ m j r. put_else (jobs_of m j) f t key v (lines_at c.nodes node x.call) (as_store c x) r) → Arrives c (new_index_by c.nodes f (is_function f) node t key v x)
   new_index_arrives value.Nil node t key v x h = plain_arrives node t key v x h

@@ -72,7 +72,7 @@ module _ (code : Code) where
       let d : Declared = declared code v (first xs) h ls in
       let one : IsOwnDeclared (ids_of h) d = declared_own v (first xs) h ls (first_own (ids_of h) xs p) q in
       then_own (ids_of h) d (λ h ls. declared_all code (v + 1) n (drop 1 xs) h ls) d.done one
-        (all_declared_own n (v + 1) (drop 1 xs) d.heap d.locals (values_later (ids_of h) (ids_of d.heap) one.later (drop 1 xs) (drop_own (ids_of h) 1 xs p)) one.locals)
+      (all_declared_own n (v + 1) (drop 1 xs) d.heap d.locals (values_later (ids_of h) (ids_of d.heap) one.later (drop 1 xs) (drop_own (ids_of h) 1 xs p)) one.locals)
 
 -- a value that is put, or how that ended
 abbrev pub IsOwnPut : Ids → Option Mode × HeapOf → Type 0

@@ -218,8 +218,11 @@ module _ (before : Ids) (nodes : List LinedNode) (code : Code) where
 
   stores_own : (statement : ℕ) (ts : List Target) (xs : List Value) (x : Configuration) → IsHeld before x → All (IsOwnTarget (ids_of x.heap)) ts → AreOf (ids_of x.heap) xs → IsOwnNext before (storing nodes statement ts xs x)
   stores_own statement [] xs x held own all = (held.0, none_own (ids_of x.heap), held.1)
-  stores_own statement (target.Local v ∷ ts) xs x held own all = (held.0, (All-tail (IsOwnTarget (ids_of x.heap)) (target.Local v) ts own, drop_own (ids_of x.heap) 1 xs all),
-      record { call = record { locals = held_set (ids_of x.heap) (position (λ l. l.0 == v) x.call.locals) x.call.locals v (first xs) (first_own (ids_of x.heap) xs all) held.1.call.locals; varargs = held.1.call.varargs }; frames = held.1.frames })
+  stores_own statement (target.Local v ∷ ts) xs x held own all = (
+    held.0,
+    (All-tail (IsOwnTarget (ids_of x.heap)) (target.Local v) ts own, drop_own (ids_of x.heap) 1 xs all),
+    record { call = record { locals = held_set (ids_of x.heap) (position (λ l. l.0 == v) x.call.locals) x.call.locals v (first xs) (first_own (ids_of x.heap) xs all) held.1.call.locals; varargs = held.1.call.varargs }; frames = held.1.frames },
+  )
   stores_own statement (target.Cell i ∷ ts) xs x held own all =
       let k : HeapOf = set_cell x.heap i (first xs) in
       let later : AreLater (ids_of x.heap) (ids_of k) = record { tables = omega arith; cells = omega (arith, length-set x.heap.cells i (first xs)); closures = omega arith; iters = omega arith; threads = omega arith } in
@@ -228,7 +231,7 @@ module _ (before : Ids) (nodes : List LinedNode) (code : Code) where
   stores_own statement (target.Global name ∷ ts) xs x held own all =
       let p = put_in (lines_at nodes statement x.call) 0 (value.Text name) (first xs) x.heap in
       putting_own before p (mode.Stores statement ts (drop 1 xs)) x held (put_own (lines_at nodes statement x.call) 0 (value.Text name) (first xs) x.heap)
-        (λ later. (targets_later (ids_of x.heap) (ids_of p.1) later ts (All-tail (IsOwnTarget (ids_of x.heap)) (target.Global name) ts own), values_later (ids_of x.heap) (ids_of p.1) later (drop 1 xs) (drop_own (ids_of x.heap) 1 xs all)))
+      (λ later. (targets_later (ids_of x.heap) (ids_of p.1) later ts (All-tail (IsOwnTarget (ids_of x.heap)) (target.Global name) ts own), values_later (ids_of x.heap) (ids_of p.1) later (drop 1 xs) (drop_own (ids_of x.heap) 1 xs all)))
   stores_own statement (target.Entry o key ∷ ts) xs x held own all =
       let here = All-head (IsOwnTarget (ids_of x.heap)) (target.Entry o key) ts own in
       push (frame.Assign (assign.Stores statement ts (drop 1 xs))) (mode.Put statement o key (first xs)) x held (All-tail (IsOwnTarget (ids_of x.heap)) (target.Entry o key) ts own, drop_own (ids_of x.heap) 1 xs all) (here.0, here.1, first_own (ids_of x.heap) xs all)
@@ -315,8 +318,8 @@ module _ (before : Ids) (nodes : List LinedNode) (code : Code) where
   count_own false at n to by outer x held = (held.0, none_own (ids_of x.heap), held.1)
   count_own true at n to by outer x held =
       ticks_own before (λ y. declaring (declared code (code.first_variable at) (value.Int n) y.heap y.call.locals) (λ z. (mode.Begin (block_at nodes at), with_frame (frame.Count (count_loop.Turn at n to by outer (length y.call.locals))) z)) y) x held
-        (declares_own before (declared code (code.first_variable at) (value.Int n) (with_tick x).heap x.call.locals) (λ z. (mode.Begin (block_at nodes at), with_frame (frame.Count (count_loop.Turn at n to by outer (length x.call.locals))) z)) (with_tick x) held
-          (declared_own code (code.first_variable at) (value.Int n) (with_tick x).heap x.call.locals tt held.1.call.locals) (λ there. (there.0, tt, frame_more before _ _ _ (frame.Count (count_loop.Turn at n to by outer (length x.call.locals))) there.1 tt)))
+      (declares_own before (declared code (code.first_variable at) (value.Int n) (with_tick x).heap x.call.locals) (λ z. (mode.Begin (block_at nodes at), with_frame (frame.Count (count_loop.Turn at n to by outer (length x.call.locals))) z)) (with_tick x) held
+      (declared_own code (code.first_variable at) (value.Int n) (with_tick x).heap x.call.locals tt held.1.call.locals) (λ there. (there.0, tt, frame_more before _ _ _ (frame.Count (count_loop.Turn at n to by outer (length x.call.locals))) there.1 tt)))
 
   next_own : (at : ℕ) (f state control : Value) (outer : ℕ) (x : Configuration) → IsHeld before x → IsOf (ids_of x.heap) f → IsOf (ids_of x.heap) state → IsOf (ids_of x.heap) control → IsOwnNext before (step nodes code (mode.Next at f state control outer) x)
   next_own at f state control outer x held p q r = ticks_own before (λ y. (mode.Call f (state ∷ control ∷ []) (lines_at nodes at y.call) false, with_frame (frame.Each (each_loop.Next at f state outer)) y)) x held
@@ -328,16 +331,24 @@ module _ (before : Ids) (nodes : List LinedNode) (code : Code) where
       let d = declared_all code (code.first_variable at) (name_count_at nodes at) vs x.heap x.call.locals in
       let own = all_declared_own code (name_count_at nodes at) (code.first_variable at) vs x.heap x.call.locals all held.1.call.locals in
       declares_own before d (λ z. (mode.Begin (block_at nodes at), with_frame (frame.Each (each_loop.Turn at f state control outer (length x.call.locals))) z)) x held own
-        (λ there. (there.0, tt, frame_more before _ _ _ (frame.Each (each_loop.Turn at f state control outer (length x.call.locals))) there.1
-          (value_later (ids_of x.heap) (ids_of d.heap) own.later f p, value_later (ids_of x.heap) (ids_of d.heap) own.later state q, value_later (ids_of x.heap) (ids_of d.heap) own.later control r)))
+      (λ there. (
+        there.0,
+        tt,
+        frame_more before _ _ _ (frame.Each (each_loop.Turn at f state control outer (length x.call.locals))) there.1
+            (value_later (ids_of x.heap) (ids_of d.heap) own.later f p, value_later (ids_of x.heap) (ids_of d.heap) own.later state q, value_later (ids_of x.heap) (ids_of d.heap) own.later control r),
+      ))
 
   each_own : (control : Value) (at : ℕ) (f state : Value) (outer : ℕ) (vs : List Value) (x : Configuration) → IsHeld before x → IsOf (ids_of x.heap) f → IsOf (ids_of x.heap) state → IsOf (ids_of x.heap) control → AreOf (ids_of x.heap) vs → IsOwnNext before (each_by nodes code control at f state outer vs x)
   each_own value.Nil at f state outer vs x held p q r all = (held.0, none_own (ids_of x.heap), held.1)
   each_own control at f state outer vs x held p q r all = each_turns_own control at f state outer vs x held p q r all
 
   made_own : (after : After) (lines : List ℕ) (vs : List Value) (x : Configuration) → IsHeld before x → AreOf (ids_of x.heap) vs → IsOwnNext before (made_by nodes after lines vs x)
-  made_own FirstThree lines vs x held own = (held.0, All-cons (IsOf (ids_of x.heap)) (first vs) (first (drop 1 vs) ∷ first (drop 2 vs) ∷ []) (first_own (ids_of x.heap) vs own)
-      (two_own (ids_of x.heap) (first (drop 1 vs)) (first (drop 2 vs)) (first_own (ids_of x.heap) (drop 1 vs) (drop_own (ids_of x.heap) 1 vs own)) (first_own (ids_of x.heap) (drop 2 vs) (drop_own (ids_of x.heap) 2 vs own))), held.1)
+  made_own FirstThree lines vs x held own = (
+    held.0,
+    All-cons (IsOf (ids_of x.heap)) (first vs) (first (drop 1 vs) ∷ first (drop 2 vs) ∷ []) (first_own (ids_of x.heap) vs own)
+        (two_own (ids_of x.heap) (first (drop 1 vs)) (first (drop 2 vs)) (first_own (ids_of x.heap) (drop 1 vs) (drop_own (ids_of x.heap) 1 vs own)) (first_own (ids_of x.heap) (drop 2 vs) (drop_own (ids_of x.heap) 2 vs own))),
+    held.1,
+  )
   made_own OneText lines (value.Text s ∷ vs) x held own = (held.0, one_own (ids_of x.heap) (value.Text s) tt, held.1)
   made_own OneText lines vs x held own = failing_own before lines (codes "bad argument 1 to tostring") x held
 
@@ -348,7 +359,7 @@ module _ (before : Ids) (nodes : List LinedNode) (code : Code) where
       let d = declared_all code (code.first_variable cl.function) (length params) args y.heap y.call.locals in
       let made = all_declared_own code (length params) (code.first_variable cl.function) args y.heap y.call.locals all ls in
       declares_own before d (λ z. (mode.Begin block, with_frame (frame.Body (body.Caller x.call)) z)) y (held.0, record { call = record { locals = ls; varargs = varargs_own (ids_of x.heap) vararg (length params) args all }; frames = held.1.frames }) made
-        (λ there. (there.0, tt, frame_more before _ _ _ (frame.Body (body.Caller x.call)) there.1 (call_later (ids_of x.heap) (ids_of d.heap) made.later x.call held.1.call)))
+      (λ there. (there.0, tt, frame_more before _ _ _ (frame.Body (body.Caller x.call)) there.1 (call_later (ids_of x.heap) (ids_of d.heap) made.later x.call held.1.call)))
   entered_own o cl args inner x held own all = (held.0, none_own (ids_of x.heap), held.1)
 
   closure_enters : (i : ℕ) (o : Option ClosureOf) → (args : List Value) (inner : List ℕ) (x : Configuration) → AreOwn x.heap → slice_get x.heap.closures i ≡ o → IsHeld before x → AreOf (ids_of x.heap) args → IsOwnNext before (entered nodes code o args inner x)

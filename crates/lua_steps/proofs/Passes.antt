@@ -50,10 +50,10 @@ module _ {H : Type 0} (c : Setting H) where
   lands_in trees i block next outer y (Some found) e h =
       let is = label_found c.nodes trees (name_there c.nodes i) (list_at c.nodes block) found e in
       pushes c (lowers c 1 h (λ m j r. closed outer (landed c.code (jobs_at c.host c.code c.nodes m j) (list_of (part c.nodes) (list_at c.nodes block)) outer
-          (statements c.code (jobs_at c.host c.code c.nodes m j) (list_of (part c.nodes) (drop found.0 (list_at c.nodes block))) (go []) (as_store c (cut (outer + found.1) y)) r)))
-          (λ m j r. rw is.0 (rw is.1 refl)))
-        (frame.Body (body.Statements block found.0 outer)) (mode.Give []) (cut (outer + found.1) y) refl (omega arith) (omega arith)
-        (λ m j r. ap (λ o. closed outer (landed c.code (jobs_at c.host c.code c.nodes m j) (list_of (part c.nodes) (list_at c.nodes block)) outer o)) (statements_are c.code (jobs_at c.host c.code c.nodes m j) (part c.nodes) (drop found.0 (list_at c.nodes block)) (go []) (as_store c (cut (outer + found.1) y)) r))
+      (statements c.code (jobs_at c.host c.code c.nodes m j) (list_of (part c.nodes) (drop found.0 (list_at c.nodes block))) (go []) (as_store c (cut (outer + found.1) y)) r)))
+      (λ m j r. rw is.0 (rw is.1 refl)))
+      (frame.Body (body.Statements block found.0 outer)) (mode.Give []) (cut (outer + found.1) y) refl (omega arith) (omega arith)
+      (λ m j r. ap (λ o. closed outer (landed c.code (jobs_at c.host c.code c.nodes m j) (list_of (part c.nodes) (list_at c.nodes block)) outer o)) (statements_are c.code (jobs_at c.host c.code c.nodes m j) (part c.nodes) (drop found.0 (list_at c.nodes block)) (go []) (as_store c (cut (outer + found.1) y)) r))
 
   lands_open : AreTrees c.nodes → (i block next outer : ℕ) (y : Configuration) (found : Option (ℕ × ℕ)) → label_in c.nodes block i ≡ found → IsJumped i (frame.Body (body.Open block next outer)) y → Arrives c (taken_up (landed_open c.nodes block outer i found) y)
   unfolding jobs
@@ -61,10 +61,10 @@ module _ {H : Type 0} (c : Setting H) where
   lands_open trees i block next outer y (Some found) e h =
       let is = label_found c.nodes trees (name_there c.nodes i) (list_at c.nodes block) found e in
       pushes c (lowers c 1 h (λ m j r. landed c.code (jobs_at c.host c.code c.nodes m j) (list_of (part c.nodes) (list_at c.nodes block)) outer
-          (statements c.code (jobs_at c.host c.code c.nodes m j) (list_of (part c.nodes) (drop found.0 (list_at c.nodes block))) (go []) (as_store c (cut (outer + found.1) y)) r))
-          (λ m j r. rw is.0 (rw is.1 refl)))
-        (frame.Body (body.Open block found.0 outer)) (mode.Give []) (cut (outer + found.1) y) refl (omega arith) (omega arith)
-        (λ m j r. ap (λ o. landed c.code (jobs_at c.host c.code c.nodes m j) (list_of (part c.nodes) (list_at c.nodes block)) outer o) (statements_are c.code (jobs_at c.host c.code c.nodes m j) (part c.nodes) (drop found.0 (list_at c.nodes block)) (go []) (as_store c (cut (outer + found.1) y)) r))
+      (statements c.code (jobs_at c.host c.code c.nodes m j) (list_of (part c.nodes) (drop found.0 (list_at c.nodes block))) (go []) (as_store c (cut (outer + found.1) y)) r))
+      (λ m j r. rw is.0 (rw is.1 refl)))
+      (frame.Body (body.Open block found.0 outer)) (mode.Give []) (cut (outer + found.1) y) refl (omega arith) (omega arith)
+      (λ m j r. ap (λ o. landed c.code (jobs_at c.host c.code c.nodes m j) (list_of (part c.nodes) (list_at c.nodes block)) outer o) (statements_are c.code (jobs_at c.host c.code c.nodes m j) (part c.nodes) (drop found.0 (list_at c.nodes block)) (go []) (as_store c (cut (outer + found.1) y)) r))
 
   pub arrives_jumped : AreTrees c.nodes → (f : Frame) (i : ℕ) (y : Configuration) → IsJumped i f y → Arrives c (taken_up (jumped c.nodes i f) y)
   arrives_jumped trees (frame.Body (body.Statements block next outer)) i y h = lands_in trees i block next outer y (label_in c.nodes block i) refl h

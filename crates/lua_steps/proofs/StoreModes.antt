@@ -40,8 +40,8 @@ module _ {H : Type 0} (c : Setting H) where
   pub arrives_declare : (statement : ℕ) (vs : List Value) (x : Configuration) → Arrives c (mode.Declare statement vs, x) → Arrives c (step c.nodes c.code (mode.Declare statement vs) x)
   arrives_declare statement vs x h =
       declares c x (declared_all c.code (c.code.first_variable statement) (name_count_at c.nodes statement) vs x.heap x.call.locals) (declare_all c.code (c.code.first_variable statement) (name_count_at c.nodes statement) vs) as_it_is (λ m j. go []) (λ z. (mode.Give [], z))
-        as_it_is_passes (says_all c (name_count_at c.nodes statement) (c.code.first_variable statement) vs x) h
-        (λ h. settles c h (mode.Give []) (declared_in (declared_all c.code (c.code.first_variable statement) (name_count_at c.nodes statement) vs x.heap x.call.locals) x) (omega arith) (omega arith) (λ m j r. refl))
+      as_it_is_passes (says_all c (name_count_at c.nodes statement) (c.code.first_variable statement) vs x) h
+      (λ h. settles c h (mode.Give []) (declared_in (declared_all c.code (c.code.first_variable statement) (name_count_at c.nodes statement) vs x.heap x.call.locals) x) (omega arith) (omega arith) (λ m j r. refl))
 
   -- the first value of an assignment
   values_arrive : (statement : ℕ) (ts : List Target) (x : Configuration) (o : Option ℕ) → slice_get (list_at c.nodes statement) 0 ≡ o →
@@ -50,7 +50,7 @@ module _ {H : Type 0} (c : Setting H) where
       (λ m j r. expressions_are c.code (jobs_of m j) (part c.nodes) (list_at c.nodes statement) (store_at c.host c.code c.nodes m j statement ts) (as_store c x) r ∙ (let none : list_at c.nodes statement ≡ [] = none_there (list_at c.nodes statement) 0 e in rw none refl))
   values_arrive statement ts x (Some i) e h = pushes c h (frame.Assign (assign.Values statement 1 ts [])) (mode.Begin i) x refl (omega arith) (omega arith)
       (λ m j r. expressions_are c.code (jobs_of m j) (part c.nodes) (list_at c.nodes statement) (store_at c.host c.code c.nodes m j statement ts) (as_store c x) r
-        ∙ ap (λ is. begin_all c.code (jobs_of m j) (part c.nodes) [] is (store_at c.host c.code c.nodes m j statement ts) (as_store c x) r) (next_there (list_at c.nodes statement) 0 i e))
+      ∙ ap (λ is. begin_all c.code (jobs_of m j) (part c.nodes) [] is (store_at c.host c.code c.nodes m j statement ts) (as_store c x) r) (next_there (list_at c.nodes statement) 0 i e))
 
   -- what follows a target
   abbrev behind : (statement next : ℕ) → List Target → (m j : ℕ) → Target → Run H
@@ -65,10 +65,10 @@ module _ {H : Type 0} (c : Setting H) where
   unfolding target_of
   target_node statement next i l ts x (node.Name name) there h =
       ticks c x as_it_is (λ m j s. behind statement next ts m j (target_named (c.code.variable i) name s) s) (λ y. (mode.Targets statement (next + 1) (ts ++ name_target (c.code.variable i) name y.call.locals ∷ []), y)) as_it_is_passes h
-        (λ h. settles c h (mode.Targets statement (next + 1) (ts ++ name_target (c.code.variable i) name x.call.locals ∷ [])) (with_tick x) (omega arith) (omega arith) (λ m j r. ap (λ t. behind statement next ts m j t (as_store c (with_tick x)) r) (named_is (c.code.variable i) name (with_tick x))))
+      (λ h. settles c h (mode.Targets statement (next + 1) (ts ++ name_target (c.code.variable i) name x.call.locals ∷ [])) (with_tick x) (omega arith) (omega arith) (λ m j r. ap (λ t. behind statement next ts m j t (as_store c (with_tick x)) r) (named_is (c.code.variable i) name (with_tick x))))
   target_node statement next i l ts x (node.Index object key) there h =
       ticks c x as_it_is (λ m j s r. after (runs c.host c.code c.nodes m j object s r) (λ o s r. after (runs c.host c.code c.nodes m j key s r) (λ k. behind statement next ts m j (target.Entry (first o) (first k))))) (λ y. (mode.Begin object, with_frame (frame.Assign (assign.Object statement (next + 1) i ts)) y)) as_it_is_passes h
-        (λ h. pushes c h (frame.Assign (assign.Object statement (next + 1) i ts)) (mode.Begin object) (with_tick x) refl (omega arith) (omega arith) (λ m j r. (let part_is : key_at c.nodes i ≡ key = rw there.there refl in rw part_is refl)))
+      (λ h. pushes c h (frame.Assign (assign.Object statement (next + 1) i ts)) (mode.Begin object) (with_tick x) refl (omega arith) (omega arith) (λ m j r. (let part_is : key_at c.nodes i ≡ key = rw there.there refl in rw part_is refl)))
   target_node statement next i l ts x n there h = settles c h (mode.Targets statement (next + 1) (ts ++ target.Nowhere ∷ [])) x (omega arith) (omega arith) (λ m j r. refl)
 
   target_at : (trees : AreTrees c.nodes) (statement next i : ℕ) (ts : List Target) (x : Configuration) (o : Option LinedNode) → slice_get c.nodes i ≡ o →
@@ -93,7 +93,7 @@ module _ {H : Type 0} (c : Setting H) where
   arrives_stores statement (target.Cell i ∷ ts) xs x h = settles c h (mode.Stores statement ts (drop 1 xs)) (with_heap (set_cell x.heap i (first xs)) x) (omega arith) (omega arith) (λ m j r. refl)
   arrives_stores statement (target.Global name ∷ ts) xs x h =
       puts c x (lines_at c.nodes statement x.call) 0 (value.Text name) (first xs) (λ m j o. after o (λ d. store_at c.host c.code c.nodes m j statement ts (drop 1 xs))) (λ m j. go []) (λ p. putting p (mode.Stores statement ts (drop 1 xs)) x)
-        (record { raises = λ m j v s r. refl; stops = λ m j st s r. refl }) (λ b h. refl) (λ k runs. settles c runs (mode.Stores statement ts (drop 1 xs)) (with_heap k x) (omega arith) (omega arith) (λ m j r. refl)) h
+      (record { raises = λ m j v s r. refl; stops = λ m j st s r. refl }) (λ b h. refl) (λ k runs. settles c runs (mode.Stores statement ts (drop 1 xs)) (with_heap k x) (omega arith) (omega arith) (λ m j r. refl)) h
   arrives_stores statement (target.Entry o key ∷ ts) xs x h = pushes c h (frame.Assign (assign.Stores statement ts (drop 1 xs))) (mode.Put statement o key (first xs)) x refl (omega arith) (omega arith) (λ m j r. refl)
   arrives_stores statement (target.Nowhere ∷ ts) xs x h = settles c h (mode.Stores statement ts (drop 1 xs)) x (omega arith) (omega arith) (λ m j r. refl)
 
@@ -113,10 +113,10 @@ module _ {H : Type 0} (c : Setting H) where
   pub arrives_items : (constructor next t count : ℕ) (vs : List Value) (x : Configuration) → Arrives c (mode.Items constructor next t count vs, x) → Arrives c (step c.nodes c.code (mode.Items constructor next t count vs) x)
   arrives_items constructor next t count vs x h =
       puts_all c (items_of c.nodes (no_field_left (drop next (fields_at c.nodes constructor))) vs) count x (lines_at c.nodes constructor x.call) constructor next t
-        (turned c h (λ m j r. put_items (lines_at c.nodes constructor x.call) t count (items_of c.nodes (no_field_left (drop next (fields_at c.nodes constructor))) vs) (λ d. fields_then c.host c.code c.nodes m j constructor next t d) (as_store c x) r)
-          (λ m j r. items_are (jobs_of m j) (no_field_left (drop next (fields_at c.nodes constructor))) t count (line_number c.nodes constructor) (λ d. fields_then c.host c.code c.nodes m j constructor next t d) vs x r))
+      (turned c h (λ m j r. put_items (lines_at c.nodes constructor x.call) t count (items_of c.nodes (no_field_left (drop next (fields_at c.nodes constructor))) vs) (λ d. fields_then c.host c.code c.nodes m j constructor next t d) (as_store c x) r)
+      (λ m j r. items_are (jobs_of m j) (no_field_left (drop next (fields_at c.nodes constructor))) t count (line_number c.nodes constructor) (λ d. fields_then c.host c.code c.nodes m j constructor next t d) vs x r))
 
   pub arrives_entry : (constructor next t count : ℕ) (key v : Value) (x : Configuration) → Arrives c (mode.Entry constructor next t count key v, x) → Arrives c (step c.nodes c.code (mode.Entry constructor next t count key v) x)
   arrives_entry constructor next t count key v x h =
       puts c x (lines_at c.nodes constructor x.call) t key v as_it_is (λ m j. fields_then c.host c.code c.nodes m j constructor next t count) (λ p. putting p (mode.Fields constructor next t count) x) as_it_is_passes (λ b h. refl)
-        (λ k runs. settles c runs (mode.Fields constructor next t count) (with_heap k x) (omega arith) (omega arith) (λ m j r. refl)) h
+      (λ k runs. settles c runs (mode.Fields constructor next t count) (with_heap k x) (omega arith) (omega arith) (λ m j r. refl)) h
