@@ -150,7 +150,7 @@ class Setup:
     def choose_name(self, head):
         """Its own where its parent is in place, else a short one right below the pool that no dataset has.
 
-        It is no longer than its own, so that the names of its snapshots aren't either.
+        It is short, so that the names of its snapshots fit, but in a pool with thousands of such datasets.
         """
         head.made_as = head.name
         while not head.parent.is_in_place and head.made_as in self.names:
