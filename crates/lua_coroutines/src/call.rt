@@ -6,7 +6,7 @@ ghost use Rattle.std.specs.List.{position};
 ghost use Rattle.lua_meaning.specs.Locals.{slot_of, with_held};
 
 use lua_ast::Sequence;
-use lua_meaning::{Slot, Target};
+use lua_meaning::Slot;
 use lua_values::{Value, ValueList};
 use std::marker::Model;
 use zc_io::NoMemory;
@@ -14,9 +14,6 @@ use zc_io::NoMemory;
 /// The lines of the calls in progress: that of the node at work, then those at which the other
 /// calls of its coroutine were made, innermost first.
 pub type Lines = Sequence<u32>;
-
-/// What an assignment stores to, from left to right.
-pub type Targets = Sequence<Target>;
 
 /// A call of a function of the program: its locals in scope by number, the oldest first, what
 /// `...` stands for, the lines at which the calls of its coroutine were made, and whether a

@@ -2,7 +2,8 @@
 //!
 //! Nodes are named by number; `next` is the place of the next of a node's parts.
 
-use crate::call::{CallInProgress, Lines, Targets};
+use crate::call::{CallInProgress, Lines};
+use crate::targets::Targets;
 use lua_ast::{BinOp, NodeId};
 use lua_meaning::{After, TableId, Value};
 use lua_values::ValueList;

@@ -76,7 +76,7 @@ fn compare_text(alloc: Global, a: &Value, b: &Value) -> Result<Vec<u8>, AllocErr
 }
 
 /// Raises a text, with the line at work before it.
-pub(crate) fn fails<L: Ledger>(
+pub fn fails<L: Ledger>(
     heap: &mut Heap,
     text: &[u8],
     lines: Lines,
@@ -97,7 +97,7 @@ pub(crate) fn fails<L: Ledger>(
 }
 
 /// Raises that a value isn't of the type that is wanted.
-pub(crate) fn fails_on<L: Ledger>(
+pub fn fails_on<L: Ledger>(
     heap: &mut Heap,
     what: &str,
     value: &Value,

@@ -12,6 +12,7 @@ mod texts;
 
 pub use arithmetic::{ArithOp, arith};
 pub use comparison::{CompareOp, compare, equal};
+pub use errors::{fails, fails_on};
 pub use lengths::length;
 pub use numbers::to_int;
 pub use result::OpResult;

@@ -84,6 +84,13 @@ abbrev pub if_begun : (node : ℕ) → (test block otherwise : Option ℕ) → C
 if_begun i (Some t) (Some b) otherwise x = (mode.Begin t, with_frame (frame.If i 0) x)
 if_begun i _ _ otherwise x = (otherwise_or_none otherwise, x)
 
+-- a node that makes nothing: with an operand, with a list of parts, or with no frame
+abbrev pub started : (operand : Option (Frame × ℕ)) → (parts : Option (Frame × Mode)) → (plain : Option Mode) → Configuration → Next
+started (Some s) l p x = (mode.Begin s.1, with_frame s.0 x)
+started None (Some s) p x = (s.1, with_frame s.0 x)
+started None None (Some b) x = (b, x)
+started None None None x = (mode.Give [], x)
+
 -- how many calls may be in progress
 abbrev pub if_room : Bool → (lines : List ℕ) → (Configuration → Next) → Configuration → Next
 if_room true lines k x = failing lines (codes "stack overflow") x
@@ -232,13 +239,7 @@ module _ (nodes : List LinedNode) where
     node_begun i (ast.While test block) x = (mode.Give [], with_frame (frame.While (while_loop.Turn i (length x.call.locals))) x)
     node_begun i (ast.If tests blocks otherwise) x = if_begun i (slice_get tests 0) (slice_get blocks 0) otherwise x
     node_begun i (ast.LocalFunction name function) x = declaring (declared code (code.first_variable i) value.Nil x.heap x.call.locals) (λ z. (mode.Begin function, with_frame (frame.Assign (assign.Function i)) z)) x
-    node_begun i n x = begun_by (operand_start i n) (list_start i n) (plain_start i (length x.call.locals) n) x
-      where
-        begun_by : Option (Frame × ℕ) → Option (Frame × Mode) → Option Mode → Configuration → Next
-        begun_by (Some s) l p x = (mode.Begin s.1, with_frame s.0 x)
-        begun_by None (Some s) p x = (s.1, with_frame s.0 x)
-        begun_by None None (Some b) x = (b, x)
-        begun_by None None None x = (mode.Give [], x)
+    node_begun i n x = started (operand_start i n) (list_start i n) (plain_start i (length x.call.locals) n) x
 
     abbrev pub begun : (i : ℕ) → Option Node → Configuration → Next
     begun i None x = (mode.Give [], x)

@@ -19,6 +19,8 @@ ghost use Rattle.lua_values.specs.Events.{event_name};
 ghost use Rattle.lua_values.specs.Start.{start_heap};
 ghost use Rattle.lua_values.specs.Lending.{LendsBudget};
 
+mod own;
+
 use crate::charge::{charge_closure, next_number};
 use crate::closure::Closure;
 use crate::event::{Event, EventKeys};

@@ -1,6 +1,6 @@
 //! Lists of arguments and results.
 
-ghost use Rattle.std.specs.Prelude.{◌≡◌, ◌↔◌, [], ◌∷◌, ◌++◌, length, take, IsTrue, IfOk, OnOk, OnErr, slice_get, slice_set};
+ghost use Rattle.std.specs.Prelude.{◌≡◌, ◌↔◌, [], ◌∷◌, ◌++◌, length, take, drop, IsTrue, IfOk, OnOk, OnErr, slice_get, slice_set};
 ghost use Rattle.std.specs.Option.{option_copied};
 ghost use Rattle.lua_meaning.specs.Values.{first, or_nil};
 ghost use Rattle.lua_meaning.specs.declared.value.Value.TheVariants as value;
@@ -138,6 +138,17 @@ impl ValueList {
             Some(value) => mem::take(value),
             None => Value::Nil,
         }
+    }
+
+    /// Takes the first value, or nil where there is none. The others move up.
+    pub fn take_first(&mut self) -> Value
+        ensures value { result ≡ first self.old }
+        ensures others { self.new ≡ drop 1 self.old }
+    {
+        if self.items.len() == 0 {
+            return Value::Nil;
+        }
+        self.items.remove(0)
     }
 
     /// The first value, or nil where there is none.
