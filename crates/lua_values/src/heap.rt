@@ -6,7 +6,6 @@ ghost use Rattle.std.specs.Borrow.{sem};
 ghost use Rattle.zc_budget.specs.Used.{is_over};
 ghost use Rattle.lua_meaning.specs.declared.value.Value.TheVariants as value;
 ghost use Rattle.lua_meaning.specs.Heap.{text_bytes, table_bytes, closure_bytes, cell_bytes, key_bytes, iter_bytes, thread_bytes, with_table, with_closure, with_cell, with_iter, with_thread, cell_at, set_cell, entry, with_entry, table_at, with_meta, metatable, metamethod};
-ghost use Rattle.lua_meaning.specs.Indexing.{string_table};
 ghost use Rattle.lua_meaning.specs.Tables.{border, was_put};
 ghost use Rattle.lua_values.specs.Ids.{ids_of, IsOf, IsOwnPair, IsOwnTable, IsOwnIter, AreLater};
 ghost use Rattle.lua_values.specs.Charges.{paid, IsNotMade};
@@ -235,24 +234,6 @@ impl Heap {
         ensures own { IsOwnIter (ids_of self.now) result.now }
     {
         &self.iters[iter.number() as usize]
-    }
-
-    /// The table of globals.
-    pub fn globals(&self) -> TableId
-        ensures value { result ≡ 0 }
-        ensures own { result < length self.now.tables }
-    {
-        let _tables = &self.tables;
-        TableId::new(0)
-    }
-
-    /// The table `string`, in which texts look their keys up.
-    pub fn strings(&self) -> TableId
-        ensures value { result ≡ string_table }
-        ensures own { result < length self.now.tables }
-    {
-        let _tables = &self.tables;
-        TableId::new(2)
     }
 
     /// A table.
