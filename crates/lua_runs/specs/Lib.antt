@@ -1,0 +1,4 @@
+pub mod Weights
+pub mod Endings
+pub mod Serving
+pub mod Standing
