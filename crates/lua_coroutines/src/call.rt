@@ -1,6 +1,6 @@
 //! Calls in progress (Lua 5.2 manual, 3.4.9 and 3.5).
 
-ghost use Rattle.std.specs.Prelude.{◌≡◌, ◌==◌, [], ◌∷◌, ◌++◌, true, length, take, OnOk, OnErr};
+ghost use Rattle.std.specs.Prelude.{◌≡◌, ◌==◌, [], ◌∷◌, ◌++◌, true, length, take, OnOk, OnErr, IfOk};
 ghost use Rattle.std.specs.Option.{option_copied};
 ghost use Rattle.std.specs.List.{position};
 ghost use Rattle.lua_meaning.specs.Locals.{slot_of, with_held};
@@ -8,6 +8,7 @@ ghost use Rattle.lua_meaning.specs.Locals.{slot_of, with_held};
 use lua_ast::Sequence;
 use lua_meaning::Slot;
 use lua_values::{Value, ValueList};
+use std::alloc::Global;
 use std::marker::Model;
 use zc_io::NoMemory;
 
@@ -32,6 +33,34 @@ impl Model for CallInProgress {
     ghost Value = { CallOf };
 
     ghost view = { λ call. record { locals = call.locals.items; varargs = call.varargs; lines = call.lines; across = call.across } };
+}
+
+/// A copy of where a local lives.
+fn copied(slot: &Slot) -> Result<Slot, NoMemory>
+    ensures { IfOk result (λ copy. copy ≡ slot.now) }
+{
+    match slot {
+        Slot::Held(value) => Ok(Slot::Held(value.clone()?)),
+        Slot::Cell(cell) => Ok(Slot::Cell(*cell)),
+    }
+}
+
+/// A copy of a local.
+fn local_copied(local: &(u32, Slot)) -> Result<(u32, Slot), NoMemory>
+    ensures { IfOk result (λ copy. copy ≡ local.now) }
+{
+    Ok((local.0, copied(&local.1)?))
+}
+
+/// Copies of these locals.
+fn all_copied(alloc: Global, locals: &[(u32, Slot)]) -> Result<Vec<(u32, Slot)>, NoMemory>
+    ensures { IfOk result (λ copies. copies.items ≡ locals.now) }
+{
+    let mut copies = Vec::new(alloc);
+    for local in locals {
+        copies.push(local_copied(local)?)?;
+    }
+    Ok(copies)
 }
 
 impl CallInProgress {
@@ -127,5 +156,22 @@ impl CallInProgress {
         ensures { self.new ≡ record self.old { across = true } }
     {
         self.across = true;
+    }
+
+    /// A copy of the call, for which a built-in that no yield may cross waits. The only refusal is
+    /// want of memory.
+    pub fn crossed(&self, alloc: Global) -> Result<CallInProgress, NoMemory>
+        ensures { IfOk result (λ call. call ≡ record self.now { across = true }) }
+    {
+        let locals = all_copied(alloc, self.locals.as_slice())?;
+        let varargs = ValueList::from_slice(alloc, self.varargs.as_slice())?;
+        let mut lines = Vec::new(alloc);
+        lines.extend_from_slice(self.lines.as_slice())?;
+        Ok(CallInProgress {
+            locals,
+            varargs,
+            lines: Lines::from_vec(lines),
+            across: true,
+        })
     }
 }

@@ -49,3 +49,17 @@ fn locals_of_a_call(rt: HostRuntime) -> Result<(), Fail> {
     assert!(rt; call.varargs().len() == 1);
     Ok(())
 }
+
+#[test]
+fn a_call_is_crossed(rt: HostRuntime) -> Result<(), Fail> {
+    let alloc = rt.alloc();
+    let call = CallInProgress::new(
+        Vec::new(alloc),
+        ValueList::new(alloc),
+        Lines::new(alloc),
+        false,
+    );
+    let crossed = call.crossed(alloc)?;
+    assert!(rt; crossed.is_across());
+    Ok(())
+}
