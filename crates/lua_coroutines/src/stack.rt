@@ -1,6 +1,6 @@
 //! A stack of frames.
 
-ghost use Rattle.std.specs.Prelude.{◌≡◌, ◌∷◌, [], OnOk, OnErr, IfNone, MatchOption};
+ghost use Rattle.std.specs.Prelude.{◌≡◌, ◌↔◌, ◌∷◌, [], IsTrue, OnOk, OnErr, IfNone, MatchOption};
 
 use crate::frame::Frame;
 use std::alloc::Global;
@@ -39,6 +39,13 @@ impl Stack {
     {
         self.frames.push(frame)?;
         Ok(())
+    }
+
+    /// Whether there is no frame.
+    pub fn is_empty(&self) -> bool
+        ensures { IsTrue result ↔ (self.now ≡ []) }
+    {
+        self.frames.is_empty()
     }
 
     /// Takes the frame on top off.
