@@ -1,0 +1,4 @@
+mod Answered
+mod Captured
+mod Operated
+mod Putting
