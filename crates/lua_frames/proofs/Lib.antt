@@ -1,0 +1,5 @@
+mod Declarations
+mod Labels
+mod NodeConstants
+mod OtherFrames
+mod OtherValues
