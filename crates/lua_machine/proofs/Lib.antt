@@ -1,0 +1,4 @@
+pub mod Endings
+pub mod Asking
+pub mod Advancing
+pub mod Starting
