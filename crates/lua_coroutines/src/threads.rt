@@ -1,8 +1,10 @@
 //! The coroutines of a program (Lua 5.2 manual, 2.6).
 
-ghost use Rattle.std.specs.Prelude.{◌≡◌};
+ghost use Rattle.std.specs.Prelude.{◌≡◌, ◌<◌, length, slice_get};
+ghost use Rattle.lua_meaning.specs.Threads.{status_in};
 ghost use Rattle.lua_coroutines.specs.Threads.{main_alone};
 
+use lua_meaning::{CoStatus, ThreadId};
 use std::marker::Model;
 
 /// The coroutines of a program, with the main thread as number 0, and which of them runs. There is
@@ -24,5 +26,22 @@ impl CoTable {
         ensures { result ≡ main_alone }
     {
         CoTable {}
+    }
+
+    /// The coroutine that runs.
+    pub fn running(&self) -> ThreadId
+        ensures { result ≡ self.now.running }
+    {
+        ThreadId::new(0)
+    }
+
+    /// The status of a coroutine of this table (Lua 5.2 manual, 6.2). The main thread, which is all
+    /// that there is yet, runs.
+    pub fn status(&self, id: ThreadId) -> CoStatus
+        requires { id < length self.now.threads }
+        ensures { result ≡ status_in (slice_get self.now.threads id) }
+    {
+        let _ = id;
+        CoStatus::Running
     }
 }

@@ -15,8 +15,8 @@ use std::alloc::{AllocError, Global};
 use std::sync::ledger::Ledger;
 use zc_budget::Steps;
 
-/// The name of a value's type, as `type` gives it.
-pub(crate) fn type_name(value: &Value) -> &'static str
+/// The name of a value's type, as `type` gives it (Lua 5.2 manual, 6.1).
+pub fn type_name(value: &Value) -> &'static str
     ensures { result.now ≡ type_name value.now }
 {
     match value {

@@ -12,8 +12,8 @@ mod texts;
 
 pub use arithmetic::{ArithOp, arith};
 pub use comparison::{CompareOp, compare, equal};
-pub use errors::{fails, fails_on};
+pub use errors::{fails, fails_on, type_name};
 pub use lengths::length;
-pub use numbers::to_int;
+pub use numbers::{number_of, to_int, without_blanks};
 pub use result::OpResult;
 pub use texts::{concat, to_text};

@@ -53,8 +53,8 @@ fn before_blanks(text: &[u8]) -> &[u8]
     rest
 }
 
-/// A text without the blanks at its ends.
-fn without_blanks(text: &[u8]) -> &[u8]
+/// A text without the blanks at its ends: spaces, and bytes from tab to carriage return.
+pub fn without_blanks(text: &[u8]) -> &[u8]
     ensures { result.now ≡ without_blanks text.now }
 {
     before_blanks(behind_blanks(text))
@@ -73,8 +73,9 @@ fn digit(byte: u8) -> u64
     }
 }
 
-/// The number of digits to a base, where it is in range.
-fn number_of(base: u64, digits: &[u8]) -> Option<i64>
+/// The number of digits and letters to a base, where each is below the base, there is one at least,
+/// and the number is at most 9223372036854775807.
+pub fn number_of(base: u64, digits: &[u8]) -> Option<i64>
     requires { (1 ≤ base) × (base ≤ 36) }
     ensures value { result ≡ in_range (number_of base digits.now) }
     ensures positive { IfSome result (λ n. pos 0 ≤ℤ n) }

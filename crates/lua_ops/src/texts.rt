@@ -145,7 +145,7 @@ pub fn to_text<L: Ledger>(heap: &mut Heap, value: &Value, steps: &mut Steps<L>) 
     ensures answer { IsOpAnswer (to_text value.now) heap.old result heap.new }
     ensures own { IsOwnAnswer (ids_of heap.new) result }
     ensures others { heap.new ≡ with_budget heap.old heap.new.used }
-    ensures steps { steps.new ≤ steps.old + 256 }
+    ensures steps { steps.new ≤ steps.old + 1 }
 {
     if let Value::Text(text) = value {
         return match text.clone() {
