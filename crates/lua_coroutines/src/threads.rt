@@ -10,14 +10,19 @@ use std::marker::Model;
 /// The coroutines of a program, with the main thread as number 0, and which of them runs. There is
 /// no other yet.
 #[derive(Drop)]
-pub struct CoTable {}
+pub struct CoTable {
+    running: ThreadId,
+}
 
 impl Model for CoTable {
+    ghost use Rattle.std.specs.Prelude.{◌≡◌};
     ghost use Rattle.lua_coroutines.specs.Threads.{ThreadsOf, main_alone};
 
     ghost Value = { ThreadsOf };
 
-    ghost view = { λ _. main_alone };
+    ghost view = { λ t. record { threads = main_alone.threads; running = t.running } };
+
+    ghost invariant = { λ t. t.running ≡ 0 };
 }
 
 impl CoTable {
@@ -25,14 +30,16 @@ impl CoTable {
     pub fn new() -> CoTable
         ensures { result ≡ main_alone }
     {
-        CoTable {}
+        CoTable {
+            running: ThreadId::new(0),
+        }
     }
 
     /// The coroutine that runs.
     pub fn running(&self) -> ThreadId
         ensures { result ≡ self.now.running }
     {
-        ThreadId::new(0)
+        self.running
     }
 
     /// The status of a coroutine of this table (Lua 5.2 manual, 6.2). The main thread, which is all
@@ -41,7 +48,10 @@ impl CoTable {
         requires { id < length self.now.threads }
         ensures { result ≡ status_in (slice_get self.now.threads id) }
     {
-        let _ = id;
-        CoStatus::Running
+        if id == self.running {
+            CoStatus::Running
+        } else {
+            CoStatus::Dead
+        }
     }
 }
