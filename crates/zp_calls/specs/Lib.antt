@@ -1,2 +1,4 @@
+pub mod JsonTexts
+pub mod Programs
 pub mod Replies
 pub mod Names
