@@ -1,5 +1,5 @@
 -- What a value that a program returns is in JSON (RFC 8259): zfs-program(8), "Lua API".
-use Rattle.std.specs.Prelude.{◌≡◌, ℕ, Bool, List, codes, length, nat_lt, if◌then◌else◌, Result, Ok, Err}
+use Rattle.std.specs.Prelude.{◌≡◌, ℕ, List, codes, length, nat_lt, if◌then◌else◌, Result, Ok, Err}
 use Rattle.std.specs.Str.{is_utf8}
 use Rattle.serde_json.specs.Data.{Data, null, boolean, number, string}
 use Rattle.serde_json.specs.Find.{of_integer}
