@@ -37,7 +37,8 @@ impl CoTable {
 
     /// The coroutine that runs.
     pub fn running(&self) -> ThreadId
-        ensures { result ≡ self.now.running }
+        ensures which { result ≡ self.now.running }
+        ensures there { result < length self.now.threads }
     {
         self.running
     }

@@ -1,0 +1,5 @@
+pub mod Answering
+pub mod Spending
+pub mod Arguments
+pub mod BadArguments
+pub mod Extending
