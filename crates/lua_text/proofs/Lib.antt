@@ -1,0 +1,4 @@
+mod Parts
+mod Repeats
+mod Finds
+mod Examples

@@ -1,0 +1,4 @@
+pub mod Positions
+pub mod Letters
+pub mod Repeating
+pub mod Finding
