@@ -1,0 +1,3 @@
+pub mod FewFunctions
+pub mod Adding
+pub mod Lawful
