@@ -13,13 +13,13 @@ use Rattle.lua_values.specs.Charges.{paid}
 use Rattle.lua_runs.specs.Serving.{IsPlain, MakesNoCoroutine}
 use Rattle.lua_test_host.specs.declared.row.Row.{Row}
 use Rattle.lua_test_host.specs.declared.row.Row.TheVariants as row
-use Rattle.lua_test_host.specs.FewFunctions.{HeapAnswer, costs_by, raises, metatable_set, iterator_of, table_of, plain_text_in, second, row_of, answers, text_left, gives_left, moved_by, few_functions}
+use Rattle.lua_test_host.specs.FewFunctions.{HeapAnswer, costs_by, raises_at_line, metatable_set, iterator_of, table_of, plain_text_in, second, row_of, answers, text_left, gives_left, moved_by, few_functions}
 
 charged_plain : (b : Bool) (n : ℕ) (k : HeapAnswer) (h : HeapOf) → IsPlain (k (paid n h)).0 → IsPlain (costs_by b n k h).0
 charged_plain true n k h p = tt
 charged_plain false n k h p = p
 
-raises_plain : (text lines : List ℕ) (h : HeapOf) → IsPlain (raises text lines h).0
+raises_plain : (text lines : List ℕ) (h : HeapOf) → IsPlain (raises_at_line text lines h).0
 raises_plain text lines h =
     let n : ℕ = text_bytes (error_text lines text) in
     charged_plain (is_over n h.used) n (λ h. (Raise (value.Text (error_text lines text)), h)) h tt

@@ -20,7 +20,7 @@ use Rattle.lua_meaning.specs.Jobs.{Values, Raise}
 use Rattle.lua_meaning.specs.declared.value.Value.TheVariants as value
 use Rattle.lua_test_host.specs.declared.row.Row.{Row}
 use Rattle.lua_test_host.specs.declared.row.Row.TheVariants as row
-use Rattle.lua_test_host.specs.FewFunctions.{HeapAnswer, costs, costs_by, raises, metatable_set, iterator_of, table_of, plain_text_in, second, answers, moved_by, gives_left, on_heap}
+use Rattle.lua_test_host.specs.FewFunctions.{HeapAnswer, costs, costs_by, raises_at_line, metatable_set, iterator_of, table_of, plain_text_in, second, answers, moved_by, gives_left, on_heap}
 
 -- what a call leaves of the heap
 pub record MakesMore (before after : HeapOf) : Type 0 where
@@ -50,7 +50,7 @@ as_long xs ys e = subst (λ n. length xs ≤ n) (sym e) (le_refl (length xs))
 longer : {X : Type 0} (xs : List X) (x : X) → length xs ≤ length (xs ++ x ∷ [])
 longer xs x = subst (λ n. length xs ≤ n) (sym (length-append xs (x ∷ []))) (le-add_right (length xs) 1)
 
-raises_adds : (text lines : List ℕ) (h : HeapOf) → MakesMore h (raises text lines h).1
+raises_adds : (text lines : List ℕ) (h : HeapOf) → MakesMore h (raises_at_line text lines h).1
 raises_adds text lines h =
     let n : ℕ = text_bytes (error_text lines text) in
     charged_by (is_over n h.used) n (λ h. (Raise (value.Text (error_text lines text)), h)) h (a_charge n h)

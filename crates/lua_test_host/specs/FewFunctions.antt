@@ -39,8 +39,8 @@ abbrev pub costs : ℕ → HeapAnswer → HeapAnswer
 costs n k h = costs_by (is_over n h.used) n k h
 
 -- raises a text, with the line at work before it
-abbrev pub raises : List ℕ → (lines : List ℕ) → HeapAnswer
-raises text lines = costs (text_bytes (error_text lines text)) (λ h. (Raise (value.Text (error_text lines text)), h))
+abbrev pub raises_at_line : List ℕ → (lines : List ℕ) → HeapAnswer
+raises_at_line text lines = costs (text_bytes (error_text lines text)) (λ h. (Raise (value.Text (error_text lines text)), h))
 
 abbrev pub table_of : Value → Option ℕ
 table_of (value.Table t) = Some t
@@ -56,13 +56,13 @@ second vs = first (drop 1 vs)
 -- `setmetatable(t, m)`: t, with this metatable
 abbrev pub metatable_set : Option ℕ → Option ℕ → (lines : List ℕ) → HeapAnswer
 metatable_set (Some t) (Some m) lines h = (Values (value.Table t ∷ []), with_meta h t (Some m))
-metatable_set (Some t) None lines h = raises (codes "bad argument 2 to setmetatable") lines h
-metatable_set None m lines h = raises (codes "bad argument 1 to setmetatable") lines h
+metatable_set (Some t) None lines h = raises_at_line (codes "bad argument 2 to setmetatable") lines h
+metatable_set None m lines h = raises_at_line (codes "bad argument 1 to setmetatable") lines h
 
 -- `zfs.list.children(text)`: an iterator function that begins with this text
 abbrev pub iterator_of : Option (List ℕ) → (lines : List ℕ) → HeapAnswer
 iterator_of (Some s) lines h = costs iter_bytes (λ k. (Values (value.Iter (length k.iters) ∷ []), with_iter k (iter.List list.Children 0 s))) h
-iterator_of None lines h = raises (codes "bad argument 1 to zfs.list.children") lines h
+iterator_of None lines h = raises_at_line (codes "bad argument 1 to zfs.list.children") lines h
 
 -- calls its first argument with the others
 abbrev pub calls : After → List Value → HeapAnswer
@@ -93,7 +93,7 @@ answers row.CallsForThree args lines = calls FirstThree args
 answers row.CallsForText args lines = calls OneText args
 answers row.GivesTwice args lines = λ h. (Values (args ++ args), h)
 answers row.MakesIterator args lines = iterator_of (plain_text_in (first args)) lines
-answers row.IsNone args lines = raises (codes "attempt to call a nil value") lines
+answers row.IsNone args lines = raises_at_line (codes "attempt to call a nil value") lines
 
 -- what is left of the text of an iterator function
 abbrev pub text_left : Option IterState → List ℕ

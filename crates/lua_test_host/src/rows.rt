@@ -6,7 +6,7 @@ ghost use Rattle.lua_values.specs.Answers.{builtin_answer};
 ghost use Rattle.lua_values.specs.Ids.{ids_of, IsOf, AreLater};
 ghost use Rattle.lua_coroutines.specs.Hosts.{IsOfHeap};
 ghost use Rattle.lua_test_host.specs.declared.row.Row.TheVariants as row;
-ghost use Rattle.lua_test_host.specs.FewFunctions.{raises, metatable_set, iterator_of, answers, calls, iterator_step, gives_left, text_left, not_made, table_of, plain_text_in, second};
+ghost use Rattle.lua_test_host.specs.FewFunctions.{raises_at_line, metatable_set, iterator_of, answers, calls, iterator_step, gives_left, text_left, not_made, table_of, plain_text_in, second};
 
 use crate::row::Row;
 use crate::values::{
@@ -39,7 +39,7 @@ fn raised<L: Ledger>(
     lines: Lines,
     steps: &mut Steps<L>,
 ) -> BuiltinResult
-    ensures answer { IfSome (builtin_answer result) (λ a. raises text.now lines.now heap.old ≡ (a, heap.new)) }
+    ensures answer { IfSome (builtin_answer result) (λ a. raises_at_line text.now lines.now heap.old ≡ (a, heap.new)) }
     ensures own { IfSome (builtin_answer result) (IsOfHeap (ids_of heap.new)) }
     ensures keeps { AreLater (ids_of heap.old) (ids_of heap.new) }
     ensures threads { heap.new.threads ≡ heap.old.threads }
