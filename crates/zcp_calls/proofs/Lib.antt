@@ -1,0 +1,4 @@
+mod Examples
+pub mod Staying
+pub mod Paying
+pub mod KeepingTrees

@@ -1,0 +1,5 @@
+pub mod Answering
+pub mod Naming
+pub mod Existing
+pub mod Syncing
+pub mod Paying
